@@ -1,0 +1,10 @@
+pub mod Limits
+pub mod Refusals
+pub mod Place
+pub mod Node
+pub mod Source
+pub mod Rows
+pub mod Side
+pub mod Bytes
+pub mod Whole
+pub mod Hinge
