@@ -1,0 +1,11 @@
+pub mod Onward
+pub mod Sources
+pub mod Rows
+pub mod Bytes
+pub mod Walk
+pub mod Forests
+pub mod Drafts
+pub mod Commands
+pub mod Unique
+pub mod Accepted
+pub mod Checks
