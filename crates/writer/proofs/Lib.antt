@@ -1,0 +1,5 @@
+pub mod Over
+pub mod Steps
+pub mod PutIn
+pub mod Whole
+pub mod Histories
