@@ -1,0 +1,4 @@
+pub mod Levels
+pub mod Turn
+pub mod Union
+pub mod Joined
