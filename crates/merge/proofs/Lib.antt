@@ -1,0 +1,12 @@
+pub mod Innermost
+pub mod Filter
+pub mod Chains
+pub mod Sides
+pub mod Serving
+pub mod Judging
+pub mod Coming
+pub mod Agreeing
+pub mod Rising
+pub mod Pairing
+pub mod Ending
+pub mod Fronts

@@ -1,0 +1,9 @@
+pub mod Axes
+pub mod Turns
+pub mod Pairs
+pub mod Stack
+pub mod Kept
+pub mod View
+pub mod Standing
+pub mod Laws
+pub mod Hinge
