@@ -1,0 +1,3 @@
+pub mod Nodes
+pub mod Under
+pub mod Law
