@@ -1,0 +1,9 @@
+pub mod Accounts
+pub mod Holdings
+pub mod Nexting
+pub mod Looking
+pub mod Skipping
+pub mod Lawful
+pub mod Deciding
+pub mod HingeRun
+pub mod Replaying
