@@ -1,5 +1,8 @@
 //! Printing what was done, and comparing it with what the rules give.
 
+ghost use mathlib.Core.Path.{_≡_};
+ghost use mathlib.Core.Bool.{cond};
+ghost use Prim.Native.Nat.{_+_, min};
 use crate::block::CALLS;
 use crate::block::DOCUMENT;
 use crate::block::ROOT_CLOSE;
@@ -21,7 +24,9 @@ pub struct Report {
 }
 
 impl Report {
-    pub fn new() -> Report {
+    pub fn new() -> Report
+        ensures { λ r. ⌜ (r .compared ≡ 0) × (r .differ ≡ 0) ⌝ }
+    {
         Report {
             compared: 0,
             differ: 0,
@@ -29,7 +34,10 @@ impl Report {
     }
 
     /// One value, compared.
-    pub fn expect(&mut self, agrees: bool) {
+    pub fn expect(&mut self, agrees: bool)
+        ensures compared { λ _. ⌜ now (self .exit) .compared ≡ min (now (self .entry) .compared + 1) 4294967295 ⌝ }
+        ensures differ { λ _. ⌜ now (self .exit) .differ ≡ cond agrees (now (self .entry) .differ) (min (now (self .entry) .differ + 1) 4294967295) ⌝ }
+    {
         self.compared = self.compared.saturating_add(1);
         if !agrees {
             self.differ = self.differ.saturating_add(1);
