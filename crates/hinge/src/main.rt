@@ -1,6 +1,8 @@
 //! The hinge block, from beginning to end: it is written to a tape, read back tag by tag, and damaged copies of it are
 //! refused; its bodies and faces are joined, a list of calls is made, a path is asked. Every value is compared with what the rules give, and the last line says how that came out.
 
+#![tactic(auto)]
+
 mod block;
 mod joins;
 mod report;

@@ -1,5 +1,7 @@
 //! Layers: sources that are made of any other sources.
 
+#![tactic(auto)]
+
 pub mod levels;
 #[cfg(test)]
 mod tests;

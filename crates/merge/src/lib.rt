@@ -1,6 +1,8 @@
 //! The merge of two sources into turns: which node comes next, which turn is refused, and which
 //! containers are open around a node. Runs, layers over runs and the steps of a path stand on it.
 
+#![tactic(auto)]
+
 pub mod due;
 pub mod laws;
 pub mod merge;

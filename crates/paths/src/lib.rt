@@ -1,5 +1,7 @@
 //! Paths: queries of child and descendant steps over any model.
 
+#![tactic(auto)]
+
 pub mod fault;
 pub mod laws;
 pub mod path;

@@ -1,5 +1,7 @@
 //! Reading tapes: the commands, the source of one tag's nodes, and the tape as a model.
 
+#![tactic(auto)]
+
 pub mod check;
 pub mod command;
 pub mod laws;

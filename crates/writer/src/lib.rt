@@ -1,5 +1,7 @@
 //! Writing tapes into a caller's bytes, by a writer outside a document and a writer inside one.
 
+#![tactic(auto)]
+
 pub mod call;
 pub mod history;
 pub mod state;

@@ -2,12 +2,12 @@ use Rattle.std.proofs.Common.{None, sym, ◌∙◌}
 use Rattle.postings.proofs.Steps.{at_end_lem, at_short, at_wrong, at_record, fits_on, stops, gives}
 use Rattle.postings.proofs.source.PostingSourceNodeSource.take.Goals as goal
 
-pub returns-in-default : goal.returns-in-default
-returns-in-default c =
+pub returns-in_default : goal.returns-in_default
+returns-in_default c =
     let t = c.loop-self.self in
     let i = c.loop-self.invariant in
-    let f = c.refuse-in-default.ensures in
-    rw f (stops c.args.self.now t i.0 i.1 _ (at_short t i.2 c.loop-self-test.true c.in-default.ensures))
+    let f = c.refuse-in_default.ensures in
+    rw f (stops c.args.self.now t i.0 i.1 _ (at_short t i.2 c.loop-self-test.true c.in_default.ensures))
 
 pub returns-in-Err : goal.returns-in-Err
 returns-in-Err c =
@@ -27,7 +27,7 @@ pub loop-self-preserved : goal.loop-self-preserved
 loop-self-preserved c =
     let t = c.loop-self.self in
     let i = c.loop-self.invariant in
-    let e = at_record t c.in-Some.record i.2 c.in-Some.ensures _ None c.in-Ok.ensures c.in-default-found.is in
+    let e = at_record t c.in-Some.record i.2 c.in-Some.ensures _ None c.in-Ok.ensures c.in_default-found.is in
     (sym e.0 ∙ i.0, sym e.1 ∙ i.1, fits_on t c.in-Some.record i.2 c.in-Some.ensures)
 
 pub returns : goal.returns

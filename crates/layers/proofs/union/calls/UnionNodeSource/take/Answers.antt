@@ -8,8 +8,8 @@ returns-in-err-turn g c =
     let p = err_from_is_err_and c.from-residual.result c.from-residual.ensures.1 in
     rw (p.1, p.2) (at_fault g.S.NodeSource g.T.NodeSource c.args.self.now _ _ c.hand.ensures c.hand-2.ensures _ c.in-err-turn.ensures)
 
-pub returns-in-default : goal.returns-in-default
-returns-in-default g c = at_end_lem g.S.NodeSource g.T.NodeSource c.args.self.now _ _ c.hand.ensures c.hand-2.ensures _ c.in-ok-turn.ensures c.in-default.is
+pub returns-in_default : goal.returns-in_default
+returns-in_default g c = at_end_lem g.S.NodeSource g.T.NodeSource c.args.self.now _ _ c.hand.ensures c.hand-2.ensures _ c.in-ok-turn.ensures c.in_default.is
 
 pub returns-then-not-has-turns : goal.returns-then-not-has-turns
 returns-then-not-has-turns g c =

@@ -22,13 +22,13 @@ returns-in-Outside c =
     let e = left_end t (omega arith) c.loop-self-test.false ∙ ap (λ g. end_at g (length t.bytes.now)) c.in-Outside.is in
     finish s t None _ i.0 i.1 i.2.name e refl
 
-pub returns-in-default : goal.returns-in-default
-returns-in-default c =
+pub returns-in_default : goal.returns-in_default
+returns-in_default c =
     let s = c.args.self.now in
     let t = c.loop-self.self in
     let i = c.loop-self.invariant in
     let n : length t.bytes.now ≡ length s.bytes.now = ap (λ b. length b.now) i.2.bytes in
     let at : t.at ≡ length t.bytes.now = search rules in
-    let e = left_end t (omega arith) c.loop-self-test.false ∙ not-outside t.stage (length t.bytes.now) c.in-default.not-Outside in
+    let e = left_end t (omega arith) c.loop-self-test.false ∙ not-outside t.stage (length t.bytes.now) c.in_default.not-Outside in
     finish s t _ _ i.0 i.1 i.2.name e
-    (ap Err (c.fault-in-default.ensures ∙ ap (λ n. fault_by Misplaced n t.at) i.2.name ∙ ap (fault_by Misplaced s.name) at))
+    (ap Err (c.fault-in_default.ensures ∙ ap (λ n. fault_by Misplaced n t.at) i.2.name ∙ ap (fault_by Misplaced s.name) at))
