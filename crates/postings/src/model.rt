@@ -6,7 +6,7 @@ ghost use Rattle.postings.specs.Written.{Told};
 ghost use Rattle.postings.specs.Source.{reading_of, list_of_tag, ending_of_tag};
 
 use crate::source::PostingSource;
-use nodes::model::Model;
+use nodes::model::Model as NodeModel;
 
 /// A posting list: for each tag, the nodes of its records.
 #[derive(Drop)]
@@ -31,7 +31,7 @@ impl<'a> Postings<'a> {
     }
 }
 
-pub impl<'a> Model for Postings<'a> as PostingModel {
+impl<'a> NodeModel for Postings<'a> {
     type Source = PostingSource<'a>;
 
     ghost list_of = { list_of_tag };

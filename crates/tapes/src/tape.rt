@@ -4,7 +4,7 @@ ghost use Rattle.std.specs.Prelude.{◌≡◌};
 ghost use Rattle.tapes.specs.Source.{tape_nodes, tape_end};
 
 use crate::source::TapeSource;
-use nodes::model::Model;
+use nodes::model::Model as NodeModel;
 
 /// The bytes of a tape, each tag's nodes in it, and how they end.
 #[derive(Clone, Copy)]
@@ -21,7 +21,7 @@ impl<'a> Tape<'a> {
     }
 }
 
-pub impl<'a> Model for Tape<'a> as TapeModel {
+impl<'a> NodeModel for Tape<'a> {
     type Source = TapeSource<'a>;
 
     ghost list_of = { λ t tag. tape_nodes t.bytes.now tag };

@@ -8,5 +8,5 @@ use Rattle.writer.proofs.write.close.Goals as goal
 pub returns : goal.returns
 returns c old d i =
     let v = ins c.close-result.new.self in
-    subst (λ a. Made old c.close-result.new.bytes (busy v) d Close a) (sym c.fault-of.ensures)
+    subst (λ a. Made old c.close-result.new.bytes (busy v) d Close a) (sym c.fault_of.ensures)
     (close_made old c.args.bytes.now c.close-result.new.bytes (ins c.args.writer) v d c.close-result.result i c.close-result.ensures)

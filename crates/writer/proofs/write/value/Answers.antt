@@ -8,5 +8,5 @@ use Rattle.writer.proofs.write.value.Goals as goal
 pub returns : goal.returns
 returns c old d i =
     let v = ins c.value-result.new.self in
-    subst (λ a. Made old c.value-result.new.bytes (busy v) d (Value c.args.tag c.args.number) a) (sym c.fault-of.ensures)
+    subst (λ a. Made old c.value-result.new.bytes (busy v) d (Value c.args.tag c.args.number) a) (sym c.fault_of.ensures)
     (value_made old c.args.bytes.now c.value-result.new.bytes (ins c.args.writer) v d c.args.tag c.args.number c.value-result.result (omega arith) (omega arith) i c.value-result.ensures)

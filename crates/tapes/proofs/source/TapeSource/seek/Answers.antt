@@ -31,7 +31,7 @@ returns-then-item-self c =
     let h = subst (λ o. Moves (step s.bytes.now (reading s)) s (Ok o) t) c.in-Some.is c.in-Ok.ensures in
     let e = on_some s t c.requires.0 c.requires.1 x h in
     record {
-      brings = (ours s t x e.0 h.tag c.if-item-self.true ∙ ap (λ n. n ∷ tape_coming t) (sym c.node-or-blank.ensures), ap (λ (w : Whole). w.stop) e.0);
+      brings = (ours s t x e.0 h.tag c.if-item-self.true ∙ ap (λ n. n ∷ tape_coming t) (sym c.node_or_blank.ensures), ap (λ (w : Whole). w.stop) e.0);
       same = record { bytes = h.bytes; tag = h.tag; name = h.name };
     }
 

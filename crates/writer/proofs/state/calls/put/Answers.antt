@@ -8,6 +8,6 @@ returns c =
     let old = c.args.bytes.now in
     let new = c.args.new.now in
     let at = c.args.at in
-    put_mid-paste at _ old c.copy-from-slice.new.self new (length new) c.copy-from-slice.ensures.after (omega arith) refl
+    put_mid-paste at _ old c.copy_from_slice.new.self new (length new) c.copy_from_slice.ensures.after (omega arith) refl
     ∙ append_assoc (take at old) (take (length new) new) (drop (at + length new) old)
     ∙ ap (λ x. take at old ++ (x ++ drop (at + length new) old)) (take-length new)

@@ -7,10 +7,10 @@ use Rattle.tapes.proofs.Onward.{long_reads}
 use Rattle.tapes.proofs.Sources.{left_end, not-outside, finish}
 use Rattle.tapes.proofs.source.reading.TapeSourceNodeSource.take.Goals as goal
 
-pub returns-then-self-gt-MAX-BYTES : goal.returns-then-self-gt-MAX-BYTES
-returns-then-self-gt-MAX-BYTES c =
+pub returns-then-self-gt-MAX_BYTES : goal.returns-then-self-gt-MAX_BYTES
+returns-then-self-gt-MAX_BYTES c =
     let s = c.args.self.now in
-    let e = long_reads s.bytes.now (reading s) c.if-self-gt-MAX-BYTES.true in
+    let e = long_reads s.bytes.now (reading s) c.if-self-gt-MAX_BYTES.true in
     record { answers = rw (e, c.fault.ensures); leaves = rw e; keeps = refl }
 
 pub returns-in-Outside : goal.returns-in-Outside
