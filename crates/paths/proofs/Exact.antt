@@ -1,6 +1,6 @@
 -- What a run that comes to its end gives: the nodes of its list that fit, in tree order.
 use Rattle.std.proofs.Common.{◌≡◌, Bool, true, false, cond, ◌⊎◌, List, [], ◌∷◌, ◌++◌, map, Some, None, filter, Option, sym, refl, ap, ◌∙◌, subst, inl, inr}
-use Rattle.std.specs.List.{AllByRecursion as All}
+use Rattle.std.specs.List.{AllByRecursion as Every}
 use Rattle.std.proofs.lemmas.Bool.{eq-eqb, eqb-true}
 use Rattle.nodes.specs.declared.refusal.Fault.{Fault}
 use Rattle.nodes.specs.declared.node.Node.{Node}
@@ -53,52 +53,52 @@ CourseIs P Q (halts e) = Unit {0}
 CourseIs P Q (has t rest) = TurnIs P Q t × CourseIs P Q rest
 
 module _ (P Q : Node → Type 0) where
-  alone_is : (ds : List Node) (e : Option Fault) → All Q ds → CourseIs P Q (inners_alone ds e)
+  alone_is : (ds : List Node) (e : Option Fault) → Every Q ds → CourseIs P Q (inners_alone ds e)
   alone_is [] e b = tt
   alone_is (d ∷ ds) e b = (b.0, alone_is ds e b.1)
 
-  meet_is : (c : Node) (next : List Node → Course) → P c → ((ds : List Node) → All Q ds → CourseIs P Q (next ds)) → (e : Option Fault) (ds : List Node) → All Q ds → CourseIs P Q (meet c next e ds)
+  meet_is : (c : Node) (next : List Node → Course) → P c → ((ds : List Node) → Every Q ds → CourseIs P Q (next ds)) → (e : Option Fault) (ds : List Node) → Every Q ds → CourseIs P Q (meet c next e ds)
   meet_is c next a k None [] b = (a, k [] b)
   meet_is c next a k (Some f) [] b = tt
   meet_is c next a k e (d ∷ ds) b =
       elim (earlier c d) as (λ x. CourseIs P Q (cond x (has (outer c) (next (d ∷ ds))) (has (inner d) (meet c next e ds))))
       [ true ↦ (a, k (d ∷ ds) b) | false ↦ (b.0, meet_is c next a k e ds b.1) ]
 
-  course_is : (cs : List Node) (ce : Option Fault) (ds : List Node) (de : Option Fault) → All P cs → All Q ds → CourseIs P Q (course cs ce ds de)
+  course_is : (cs : List Node) (ce : Option Fault) (ds : List Node) (de : Option Fault) → Every P cs → Every Q ds → CourseIs P Q (course cs ce ds de)
   course_is [] None ds de a b = alone_is ds de b
   course_is [] (Some f) ds de a b = tt
   course_is (c ∷ cs) ce ds de a b = meet_is c (λ rest. course cs ce rest de) a.0 (λ rest r. course_is cs ce rest de a.1 r) de ds b
 
-  sound_is : (had : List Turn) (c : Course) → CourseIs P Q c → All (TurnIs P Q) (sound had c)
+  sound_is : (had : List Turn) (c : Course) → CourseIs P Q c → Every (TurnIs P Q) (sound had c)
   sound_is had (halts e) h = tt
   sound_is had (has t rest) h =
-      elim (refusal had t) as (λ v. All (TurnIs P Q) (elim v as (λ _. List Turn) [ None ↦ t ∷ sound (had ++ (t ∷ [])) rest | Some r ↦ [] ]))
+      elim (refusal had t) as (λ v. Every (TurnIs P Q) (elim v as (λ _. List Turn) [ None ↦ t ∷ sound (had ++ (t ∷ [])) rest | Some r ↦ [] ]))
       [ None ↦ (h.0, sound_is (had ++ (t ∷ [])) rest h.1) | Some r ↦ tt ]
 
-  outers_are : (ts : List Turn) → All (TurnIs P Q) ts → All P (outers ts)
+  outers_are : (ts : List Turn) → Every (TurnIs P Q) ts → Every P (outers ts)
   outers_are [] h = tt
   outers_are (outer c ∷ ts) h = (h.0, outers_are ts h.1)
   outers_are (inner d ∷ ts) h = outers_are ts h.1
 
-  inners_are : (ts : List Turn) → All (TurnIs P Q) ts → All Q (inners ts)
+  inners_are : (ts : List Turn) → Every (TurnIs P Q) ts → Every Q (inners ts)
   inners_are [] h = tt
   inners_are (outer c ∷ ts) h = inners_are ts h.1
   inners_are (inner d ∷ ts) h = (h.0, inners_are ts h.1)
 
-holds_more : (m : Node) (xs ys : List Node) → All (Holds xs) ys → All (Holds (m ∷ xs)) ys
+holds_more : (m : Node) (xs ys : List Node) → Every (Holds xs) ys → Every (Holds (m ∷ xs)) ys
 holds_more m xs [] h = tt
 holds_more m xs (y ∷ ys) h = (inr h.0, holds_more m xs ys h.1)
 
-holds_all : (xs : List Node) → All (Holds xs) xs
+holds_all : (xs : List Node) → Every (Holds xs) xs
 holds_all [] = tt
 holds_all (x ∷ xs) = (inl refl, holds_more x xs xs (holds_all xs))
 
-all_at : (P : Node → Type 0) (xs : List Node) (x : Node) → All P xs → Holds xs x → P x
+all_at : (P : Node → Type 0) (xs : List Node) (x : Node) → Every P xs → Holds xs x → P x
 all_at P [] x a i = absurd i
 all_at P (y ∷ ys) x a (inl e) = subst P (sym e) a.0
 all_at P (y ∷ ys) x a (inr k) = all_at P ys x a.1 k
 
-pub from_holds : (P : Node → Type 0) (xs : List Node) → ((x : Node) → Holds xs x → P x) → All P xs
+pub from_holds : (P : Node → Type 0) (xs : List Node) → ((x : Node) → Holds xs x → P x) → Every P xs
 from_holds P [] f = tt
 from_holds P (x ∷ xs) f = (f x (inl refl), from_holds P xs (λ y k. f y (inr k)))
 

@@ -1,6 +1,6 @@
 -- The law of paths, in the words of the subject.
 use Rattle.std.specs.Prelude.{◌≡◌, ℕ, zero, suc, ◌+◌, ◌*◌, ◌<◌, ◌≤◌, true, List, [], ◌∷◌, length, Some, None, Ok, Err, Result, ◌≢◌, slice_index_or}
-use Rattle.std.specs.List.{AllByRecursion as All}
+use Rattle.std.specs.List.{AllByRecursion as Every}
 use Rattle.nodes.specs.declared.node.Node.{Node}
 use Rattle.nodes.specs.declared.refusal.Fault.{Fault}
 use Rattle.nodes.specs.declared.refusal.Refusal.TheVariants.{QueryLength, QueryCommand, ListFull}
@@ -89,7 +89,7 @@ module _ (w : Scope) (ss : List Asked) where
 
   -- so many different nodes fit step i + 1, by the lists alone
   abbrev pub MoreFit : ℕ → Type 0
-  MoreFit i = (ns : List Node) × (w.room < length ns) × InTreeOrder ns × All (Fits w.list_of ss (suc i)) ns
+  MoreFit i = (ns : List Node) × (w.room < length ns) × InTreeOrder ns × Every (Fits w.list_of ss (suc i)) ns
 
 -- what a path gives, and why: one case for each answer
 pub data PathLaw (w : Scope) (bytes : List ℕ) (m : Result (List Node) PathFault) : Type 0 where

@@ -1,5 +1,5 @@
 use Rattle.std.proofs.Common.{◌≡◌, ℕ, ◌<◌, ◌≤◌, Bool, true, false, cond, eqb, List, [], ◌∷◌, map, length, get_or, Some, None, Ok, Err, Option, Result, sym, refl, ap, ◌∙◌, subst, inl, inr}
-use Rattle.std.specs.List.{AllByRecursion as All}
+use Rattle.std.specs.List.{AllByRecursion as Every}
 use Rattle.std.proofs.lemmas.Bool.{cases_lt}
 use Rattle.nodes.specs.Limits.{max_bytes}
 use Rattle.nodes.specs.Whole.{Whole, Stop, keep_if, of_tag, named}
@@ -25,7 +25,7 @@ kept : (b : Bool) (r : Row) (ns : List Node) (rs : List Row) → row_of (as_node
 kept true r ns rs e h = ap (λ z. z ∷ map row_of ns) e ∙ ap (λ z. r ∷ z) h
 kept false r ns rs e h = h
 
-own_rows : (tag : ℕ) (xs : List Tagged) → All IsNode xs → map row_of (of_tag tag xs) ≡ tag_rows tag xs
+own_rows : (tag : ℕ) (xs : List Tagged) → Every IsNode xs → map row_of (of_tag tag xs) ≡ tag_rows tag xs
 own_rows tag [] h = refl
 own_rows tag (x ∷ xs) h = kept (eqb x.tag tag) x.row (of_tag tag xs) (tag_rows tag xs) h.0 (own_rows tag xs h.1)
 
@@ -37,7 +37,7 @@ tape_of bs f h e =
       fine = h;
       bytes = e;
       nodes = λ tag. ap (λ (w : Whole). of_tag tag w.rows) r;
-      rows = λ tag. ap (λ (w : Whole). map row_of (of_tag tag w.rows)) r ∙ own_rows tag (forest_rows f) (subst (λ (w : Whole). All IsNode w.rows) r (tape_rows bs));
+      rows = λ tag. ap (λ (w : Whole). map row_of (of_tag tag w.rows)) r ∙ own_rows tag (forest_rows f) (subst (λ (w : Whole). Every IsNode w.rows) r (tape_rows bs));
       end = λ name. ap (λ (w : Whole). named name w.stop) r;
     }
 

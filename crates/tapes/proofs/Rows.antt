@@ -1,5 +1,5 @@
 use Rattle.std.proofs.Common.{◌≡◌, ℕ, zero, suc, ◌+◌, ◌<◌, ◌≤◌, Bool, true, false, cond, eqb, ltb, leb, List, [], ◌∷◌, length, drop, Some, None, Ok, Err, Option, Result, sym, refl, ap, ◌∙◌, subst, inl, inr, arith, lit≤}
-use Rattle.std.specs.List.{AllByRecursion as All}
+use Rattle.std.specs.List.{AllByRecursion as Every}
 use Rattle.std.proofs.lemmas.Bool.{leb-true, ltb-true, ltb-false, le-leb, and_from, cases_Bool, cond-true, cond-false}
 use Rattle.nodes.specs.Limits.{max_document, max_level}
 use Rattle.nodes.specs.Whole.{Whole}
@@ -76,17 +76,17 @@ fair_by n s (Ok k) h = fair_unless (judge n s k) (done s k) (fair_done n s k h)
 fair_by n s (Err f) h = tt
 
 -- where nothing more is read
-none_at : (g : Stage) (n : ℕ) → All IsNode (end_at g n).rows
+none_at : (g : Stage) (n : ℕ) → Every IsNode (end_at g n).rows
 none_at Outside n = tt
 none_at Begun n = tt
 none_at Rooted n = tt
 
-all_onward : (s : Reading) (m : Move) (go : Reading → Whole) → Fair m → ((t : Reading) → t.document ≤ max_document → All IsNode (go t).rows) → All IsNode (onward s m go).rows
+all_onward : (s : Reading) (m : Move) (go : Reading → Whole) → Fair m → ((t : Reading) → t.document ≤ max_document → Every IsNode (go t).rows) → Every IsNode (onward s m go).rows
 all_onward s (refused f) go h p = tt
 all_onward s (moved t) go h p = p t h
 all_onward s (made x t) go h p = (h.0, p t h.1)
 
-all_from : (f : ℕ) (bs : List ℕ) (s : Reading) → s.document ≤ max_document → All IsNode (read_from f bs s).rows
+all_from : (f : ℕ) (bs : List ℕ) (s : Reading) → s.document ≤ max_document → Every IsNode (read_from f bs s).rows
 unfolding read_from
 all_from zero bs s h = none_at s.stage (length bs)
 all_from (suc f) bs s h =
@@ -96,7 +96,7 @@ all_from (suc f) bs s h =
     ]
 
 -- every row that a tape gives is a node's
-pub tape_rows : (bs : List ℕ) → All IsNode (reads_on bs start).rows
+pub tape_rows : (bs : List ℕ) → Every IsNode (reads_on bs start).rows
 unfolding reads_on reads
 tape_rows bs =
     elim (cases_Bool (leb (length bs) 16777216)) [
