@@ -3,7 +3,6 @@ use mathlib.Core.HLevel.{is_prop→PathP}
 use native.Mathlib.Bridge.{le_prop}
 use Rattle.std.proofs.lemmas.Bool.{le-leb, and_from}
 use Rattle.nodes.specs.Limits.{max_document, max_level}
-use Rattle.nodes.specs.declared.refusal.Refusal.{Refusal}
 use Rattle.nodes.specs.declared.refusal.Refusal.TheVariants.{OutOfRange, StartPassesEnd}
 use Rattle.nodes.specs.declared.row.Row.{Row}
 use Rattle.nodes.specs.declared.node.Node.{Node}

@@ -1,5 +1,4 @@
 use Rattle.std.specs.Prelude.{ℕ, Bool, true, false, List, [], ◌∷◌, Some, None, Option, ◌==◌}
-use Rattle.nodes.specs.declared.row.Row.{Row}
 use Rattle.nodes.specs.declared.tagged.Tagged.{Tagged}
 use Rattle.nodes.specs.declared.node.Node.{Node}
 use Rattle.nodes.specs.declared.refusal.Refusal.{Refusal}

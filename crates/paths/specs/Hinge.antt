@@ -1,5 +1,4 @@
 use Rattle.std.specs.Prelude.{◌≡◌, ℕ, cond, List, [], ◌∷◌, None, Ok, Err, ◌==◌}
-use Rattle.nodes.specs.declared.node.Node.{Node}
 use Rattle.nodes.specs.declared.refusal.Refusal.TheVariants.{ListFull}
 use Rattle.nodes.specs.Hinge.{node7, tag1, tag2, tag3}
 use Rattle.paths.specs.declared.fault.PathFault.TheVariants.{Own}

@@ -11,7 +11,7 @@ use Rattle.tapes.specs.declared.stage.Stage.TheVariants.{Outside, Begun, Rooted}
 use Rattle.tapes.specs.Command.{command_in}
 use Rattle.tapes.specs.Reading
 use Rattle.tapes.specs.Reading.{Reading, test, judge, innermost, reads, end_at, start}
-use Rattle.tapes.specs.Forest.{Children, none, value, element, Document, Forest, encode_in, encode, FineFrom}
+use Rattle.tapes.specs.Forest.{Children, none, value, Document, Forest, encode_in, encode, FineFrom}
 use Rattle.tapes.specs.Draft.{Opened, Draft, between, begun, within, rooted, opened, document, grown, closed, size_of, open_size, draft_size, least_of, Operand, open_bytes, draft_bytes, FineDraft}
 use Rattle.tapes.proofs.Onward.{reads-step, reads_end}
 use Rattle.tapes.proofs.Drafts

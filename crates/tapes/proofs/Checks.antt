@@ -8,7 +8,7 @@ use Rattle.nodes.specs.declared.row.Row.{Row}
 use Rattle.nodes.specs.declared.tagged.Tagged.{Tagged}
 use Rattle.nodes.specs.Node.{row_of, as_node}
 use Rattle.nodes.specs.declared.refusal.Fault.{Fault}
-use Rattle.tapes.specs.Reading.{reads, start, tape_reads}
+use Rattle.tapes.specs.Reading.{start, tape_reads}
 use Rattle.tapes.specs.Rows.{IsNode}
 use Rattle.tapes.specs.Source.{tape_end}
 use Rattle.tapes.specs.Forest.{Forest, encode, tag_rows, forest_rows, Fine}

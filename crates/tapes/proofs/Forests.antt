@@ -2,7 +2,7 @@ use Rattle.std.proofs.Common.{◌≡◌, ℕ, ◌+◌, ◌-◌, ◌<◌, ◌≤�
 use Rattle.std.proofs.lemmas.Bool.{le-leb, lt-ltb, le-ltb, eq-eqb}
 use Rattle.nodes.specs.Limits.{max_bytes, max_document, max_level}
 use Rattle.nodes.specs.Bytes.{two, four}
-use Rattle.nodes.specs.Whole.{Whole, ends, more}
+use Rattle.nodes.specs.Whole.{Whole, more}
 use Rattle.tapes.specs.declared.command.Command.TheVariants.{Begin, Open, End}
 use Rattle.tapes.specs.declared.stage.Stage.TheVariants.{Outside, Begun, Rooted}
 use Rattle.tapes.specs.Command.{command_in}

@@ -1,14 +1,13 @@
-use Rattle.std.proofs.Common.{◌≡◌, ℕ, zero, suc, ◌+◌, ◌-◌, ◌<◌, ◌≤◌, Bool, true, false, cond, eqb, ltb, leb, List, [], ◌∷◌, length, drop, Some, None, Ok, Err, Option, Result, sym, refl, ap, ◌∙◌, inl, inr, arith}
+use Rattle.std.proofs.Common.{◌≡◌, ℕ, zero, suc, ◌-◌, ◌<◌, ◌≤◌, List, length, drop, Some, None, Ok, Err, Option, Result, sym, refl, ap, ◌∙◌, inl, inr, arith}
 use Rattle.std.proofs.lemmas.Bool.{lt-ltb, le-ltb, le-leb, lt-leb, cases_lt}
 use Rattle.nodes.specs.Limits.{max_bytes}
 use Rattle.nodes.specs.Whole.{Whole, stopped, more}
 use Rattle.nodes.specs.declared.refusal.Refusal.{Refusal}
 use Rattle.nodes.specs.declared.refusal.Refusal.TheVariants.{TooLong}
-use Rattle.nodes.specs.declared.tagged.Tagged.{Tagged}
 use Rattle.tapes.specs.declared.command.Command.{Command}
 use Rattle.tapes.specs.declared.command.Command.TheVariants.{Begin, Open, Close, Value, End}
 use Rattle.tapes.specs.Command.{command_in}
-use Rattle.tapes.specs.Reading.{Reading, Move, refused, moved, made, judge, done, unless, move, move_by, step, end_at, onward, read_from, reads, reads_on}
+use Rattle.tapes.specs.Reading.{Reading, Move, refused, moved, made, judge, done, unless, move_by, step, end_at, onward, read_from, reads, reads_on}
 
 -- a command that is not refused moves the reading on
 abbrev pub Forward : Reading → Move → Type 0

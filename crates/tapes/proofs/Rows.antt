@@ -1,4 +1,4 @@
-use Rattle.std.proofs.Common.{◌≡◌, ℕ, zero, suc, ◌+◌, ◌<◌, ◌≤◌, Bool, true, false, cond, eqb, ltb, leb, List, [], ◌∷◌, length, drop, Some, None, Ok, Err, Option, Result, sym, refl, ap, ◌∙◌, subst, inl, inr, arith, lit≤}
+use Rattle.std.proofs.Common.{◌≡◌, ℕ, zero, suc, ◌+◌, ◌<◌, ◌≤◌, Bool, true, false, ltb, leb, List, length, drop, Some, None, Ok, Err, Option, Result, sym, refl, ◌∙◌, inl, inr, arith, lit≤}
 use Rattle.std.specs.List.{AllByRecursion as Every}
 use Rattle.std.proofs.lemmas.Bool.{leb-true, ltb-true, ltb-false, le-leb, and_from, cases_Bool, cond-true, cond-false}
 use Rattle.nodes.specs.Limits.{max_document, max_level}
@@ -12,7 +12,7 @@ use Rattle.tapes.specs.declared.command.Command.TheVariants.{Begin, Open, Close,
 use Rattle.tapes.specs.declared.stage.Stage.{Stage}
 use Rattle.tapes.specs.declared.stage.Stage.TheVariants.{Outside, Begun, Rooted}
 use Rattle.tapes.specs.Command.{command_in}
-use Rattle.tapes.specs.Reading.{Reading, Move, refused, moved, made, test, judge, done, unless, move, move_by, step, end_at, onward, read_from, reads, reads_on, start, row_at, innermost, begun}
+use Rattle.tapes.specs.Reading.{Reading, Move, refused, moved, made, test, judge, done, unless, move_by, step, end_at, onward, read_from, reads, reads_on, start, row_at, innermost, begun}
 use Rattle.tapes.specs.Rows.{IsNode}
 
 -- the numbers of a row that make it a node's

@@ -1,6 +1,6 @@
-use Rattle.std.specs.Prelude.{◌≡◌, ℕ, zero, suc, ◌+◌, ◌-◌, Bool, true, false, cond, List, length, drop, replicate, Some, None, Ok, Err, Option, Result, ◌==◌, nat_le, nat_lt, slice_index, slice_set}
+use Rattle.std.specs.Prelude.{ℕ, zero, suc, ◌+◌, ◌-◌, Bool, true, false, cond, List, length, drop, replicate, Some, None, Ok, Err, Option, Result, ◌==◌, nat_le, nat_lt, slice_index, slice_set}
 use Rattle.nodes.specs.Limits.{max_bytes, max_document, max_level}
-use Rattle.nodes.specs.Whole.{Whole, Stop, ends, stopped, more}
+use Rattle.nodes.specs.Whole.{Whole, ends, stopped, more}
 use Rattle.nodes.specs.declared.refusal.Refusal.{Refusal}
 use Rattle.nodes.specs.declared.refusal.Refusal.TheVariants.{TooLong, Misplaced, DocumentOrder, TooDeep, OutsideElement, CloseElsewhere}
 use Rattle.nodes.specs.declared.row.Row.{Row}
@@ -9,7 +9,7 @@ use Rattle.tapes.specs.declared.command.Command.{Command}
 use Rattle.tapes.specs.declared.command.Command.TheVariants.{Begin, Open, Close, Value, End}
 use Rattle.tapes.specs.declared.stage.Stage.{Stage}
 use Rattle.tapes.specs.declared.stage.Stage.TheVariants.{Outside, Begun, Rooted}
-use Rattle.tapes.specs.Command.{command_in, width}
+use Rattle.tapes.specs.Command.{command_in}
 
 -- where a reading stands: the offset of the next command, the document, the least number that the next document
 -- may have, and the open elements: how many, and their CLOSE offsets, the outermost first

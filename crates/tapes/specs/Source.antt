@@ -1,10 +1,9 @@
-use Rattle.std.specs.Prelude.{◌≡◌, ℕ, ◌<◌, List, [], ◌∷◌, length, Some, None, Ok, Err, Option, Result}
+use Rattle.std.specs.Prelude.{◌≡◌, ℕ, ◌<◌, List, ◌∷◌, length, Some, None, Ok, Err, Option, Result}
 use Rattle.nodes.specs.declared.node.Node.{Node}
 use Rattle.nodes.specs.declared.refusal.Refusal.{Refusal}
 use Rattle.nodes.specs.declared.refusal.Fault.{Fault}
 use Rattle.nodes.specs.declared.tagged.Tagged.{Tagged}
-use Rattle.nodes.specs.Node.{as_node}
-use Rattle.nodes.specs.Whole.{Whole, stopped, more, of_tag, named}
+use Rattle.nodes.specs.Whole.{Whole, stopped, of_tag, named}
 use Rattle.tapes.specs.declared.command.Command.{Command}
 use Rattle.tapes.specs.declared.source.TapeSource.{TapeSource}
 use Rattle.tapes.specs.declared.source.reading.Found.{Found}

@@ -9,7 +9,7 @@ use Rattle.tapes.proofs.Checks.{tape_of}
 use Rattle.tapes.proofs.Commands.{some_not}
 use Rattle.tapes.proofs.Drafts.{length_docs}
 use Rattle.writer.specs.Writer.{Out}
-use Rattle.writer.specs.Calls.{draft_calls, put_in, answers, answer, after, accepted, over, finished_length}
+use Rattle.writer.specs.Calls.{draft_calls, put_in, answers, after, accepted, over, finished_length}
 use Rattle.writer.specs.Turns.{State, free, busy, Stands, Holds, Made, length_of, Far}
 use Rattle.writer.specs.Writes.{Unbroken, PutsIn, Writes, WritesAll}
 use Rattle.writer.specs.declared.call.WriterCall.{WriterCall}
