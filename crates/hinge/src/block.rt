@@ -1,8 +1,9 @@
 //! What the rules give for the hinge block: a part (tag 1) with a body (tag 2) that has a face (tag 3) and a body with
 //! a face, and then a face of the part's own.
 
+use crate::said::Said;
 use nodes::place::Place;
-use runs::call::Call;
+use runs::call::{Call, Tally};
 use writer::call::WriterCall;
 
 /// The number of the document.
@@ -47,45 +48,43 @@ pub const CHILDREN: [(u32, u32); 2] = [(12, 19), (26, 33)];
 
 pub const NESTED: [(u32, u32); 1] = [(12, 26)];
 
-/// What a call of a run answers.
-#[derive(Clone, Copy, PartialEq, Eq)]
-pub enum Said {
-    Pair(u32, u32),
-    End,
-    Fault(u8, u32),
-    Passed(u32),
-    Tally(u32, u32, u32, u32),
-}
-
 /// Calls on the run of the bodies over the faces, descendant axis, each with its answer.
 pub const RUN: [(Call, Said); 6] = [
-    (Call::Next, Said::Pair(12, 19)),
+    (Call::Next, Said::Next(Ok(Some((12, 19))))),
     (
         Call::Skip(Place {
             document: DOCUMENT,
             start: 33,
         }),
-        Said::Passed(0),
+        Said::Skip(Ok(0)),
     ),
-    (Call::Next, Said::Pair(12, 33)),
+    (Call::Next, Said::Next(Ok(Some((12, 33))))),
     (
         Call::Skip(Place {
             document: DOCUMENT,
             start: 34,
         }),
-        Said::Passed(1),
+        Said::Skip(Ok(1)),
     ),
-    (Call::Next, Said::End),
-    (Call::Tell, Said::Tally(2, 1, 0, 5)),
+    (Call::Next, Said::Next(Ok(None))),
+    (
+        Call::Tell,
+        Said::Tell(Tally {
+            handed: 2,
+            passed: 1,
+            waiting: 0,
+            turns: 5,
+        }),
+    ),
 ];
 
 /// One container, (12, 41) at level 2, over one node: its start, end and level, and what next answers.
 pub const ALONE: [(u32, u32, u8, Said); 5] = [
-    (41, 41, 3, Said::Fault(15, 2)),
-    (40, 40, 3, Said::Pair(12, 40)),
-    (42, 42, 3, Said::End),
-    (19, 19, 2, Said::Fault(16, 2)),
-    (19, 19, 3, Said::Pair(12, 19)),
+    (41, 41, 3, Said::Next(Err((15, 2)))),
+    (40, 40, 3, Said::Next(Ok(Some((12, 40))))),
+    (42, 42, 3, Said::Next(Ok(None))),
+    (19, 19, 2, Said::Next(Err((16, 2)))),
+    (19, 19, 3, Said::Next(Ok(Some((12, 19))))),
 ];
 
 /// The query part, body anywhere below, face: CHILD 1, DESCENDANT 2, CHILD 3; the starts that it answers with lists of

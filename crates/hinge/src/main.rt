@@ -6,6 +6,7 @@
 mod block;
 mod joins;
 mod report;
+mod said;
 mod worked;
 
 use block::{BODIES, CALLS, CHILDREN, DAMAGES, DESCENDANTS, FACES, NESTED, PART};
@@ -18,7 +19,7 @@ use writer::write::write_all;
 fn main(rt: HostRuntime) -> io::Result<()> {
     worked_example();
     let mut bytes = [0; 51];
-    let mut answers = [None; 11];
+    let mut answers = [Ok(()); 11];
     let finished = write_all(&CALLS, &mut bytes, &mut answers);
     let mut report = Report::new();
     report.calls(&rt, &answers)?;

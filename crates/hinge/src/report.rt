@@ -4,12 +4,12 @@ ghost use Rattle.std.specs.Prelude.{◌≡◌, ◌+◌, min, if◌then◌else◌
 
 use crate::block::{CALLS, DOCUMENT, ROOT_CLOSE, TAPE};
 use nodes::node::Node;
+use nodes::row::Row;
 use nodes::source::NodeSource;
 use std::io;
 use tapes::check::check_tape;
 use tapes::source::TapeSource;
-use writer::call::WriterCall;
-use writer::state::WriteFault;
+use writer::fault::WriteFault;
 
 /// How many values were compared, and how many of them differ.
 #[derive(Drop)]
@@ -43,25 +43,14 @@ impl Report {
     pub fn calls(
         &mut self,
         rt: &HostRuntime,
-        answers: &[Option<WriteFault>; 11],
+        answers: &[Result<(), WriteFault>; 11],
     ) -> io::Result<()> {
         for (call, answer) in CALLS.iter().zip(answers) {
-            match *call {
-                WriterCall::Begin(document) => print!(rt; "begin document {document}: ")?,
-                WriterCall::Open(tag) => print!(rt; "open tag {tag}: ")?,
-                WriterCall::Value(tag, number) => print!(rt; "value tag {tag}, number {number}: ")?,
-                WriterCall::Close => print!(rt; "close: ")?,
-                WriterCall::End => print!(rt; "end: ")?,
-            }
             match answer {
-                None => println!(rt; "accepted")?,
-                Some(fault) => {
-                    let number = fault.refusal.number();
-                    let place = fault.place;
-                    println!(rt; "refusal {number} at {place}")?;
-                }
+                Ok(()) => println!(rt; "{call}: accepted")?,
+                Err(fault) => println!(rt; "{call}: {fault}")?,
             }
-            self.expect(answer.is_none());
+            self.expect(answer.is_ok());
         }
         Ok(())
     }
@@ -102,17 +91,11 @@ impl Report {
         let mut source = TapeSource::new(bytes, tag, tag);
         for expected in rows {
             match source.take() {
-                Err(_) => self.expect(false),
-                Ok(taken) => match taken {
-                    None => self.expect(false),
-                    Some(node) => self.node(rt, tag, node, *expected)?,
-                },
+                Ok(Some(node)) => self.node(rt, tag, node, *expected)?,
+                _ => self.expect(false),
             }
         }
-        match source.take() {
-            Err(_) => self.expect(false),
-            Ok(taken) => self.expect(taken.is_none()),
-        }
+        self.expect(matches!(source.take(), Ok(None)));
         Ok(())
     }
 
@@ -123,8 +106,12 @@ impl Report {
         node: Node,
         expected: (u32, u32, u8),
     ) -> io::Result<()> {
-        let row = node.row();
-        let (document, start, end, level) = (row.document, row.start, row.end, row.level);
+        let Row {
+            document,
+            start,
+            end,
+            level,
+        } = Row::from(node);
         self.expect(document == DOCUMENT);
         self.expect((start, end, level) == expected);
         println!(rt; "tag {tag}: document {document}, start {start}, end {end}, level {level}")
@@ -148,19 +135,19 @@ impl Report {
         tape: &[u8; 51],
         damage: (u8, u8, u32),
     ) -> io::Result<()> {
+        let (close, number, place) = damage;
         let mut bytes = *tape;
-        bytes[ROOT_CLOSE] = damage.0;
-        let close = damage.0;
+        bytes[ROOT_CLOSE] = close;
         match check_tape(&bytes, 9) {
             Ok(()) => {
                 println!(rt; "root CLOSE {close}: not refused")?;
                 self.expect(false);
             }
             Err(fault) => {
-                let number = fault.refusal.number();
-                let (name, place) = (fault.name, fault.place);
-                println!(rt; "root CLOSE {close}: refusal {number} at {place}, found by {name}")?;
-                self.expect(number == damage.1 && place == damage.2 && name == 9);
+                println!(rt; "root CLOSE {close}: {fault}")?;
+                self.expect(
+                    (fault.refusal.number(), fault.place, fault.name) == (number, place, 9),
+                );
             }
         }
         Ok(())
@@ -168,9 +155,8 @@ impl Report {
 
     /// The sum of the comparisons.
     pub fn sum(&self, rt: &HostRuntime) -> io::Result<()> {
-        let compared = self.compared;
-        let differ = self.differ;
-        if differ == 0 {
+        let Report { compared, differ } = self;
+        if *differ == 0 {
             println!(rt; "{compared} values compared with the rules: all agree")
         } else {
             println!(rt; "{compared} values compared with the rules: {differ} differ")

@@ -1,4 +1,4 @@
-use Rattle.std.proofs.Common.{◌≡◌, ℕ, ◌+◌, ◌<◌, ◌≤◌, true, false, cond, ltb, ◌⊎◌, List, [], ◌∷◌, length, Some, None, Option, sym, refl, ap, ◌∙◌, inl, inr, ⊎_elim, add-zero, zero-add, arith}
+use Rattle.std.proofs.Common.{◌≡◌, ℕ, ◌+◌, ◌<◌, ◌≤◌, true, false, cond, ltb, ◌⊎◌, List, [], ◌∷◌, length, Some, None, Ok, Option, sym, refl, ap, ◌∙◌, inl, inr, ⊎_elim, add-zero, zero-add, arith}
 use mathlib.Core.List.Memᴰ
 use Rattle.std.proofs.lemmas.Bool.{ltb-true, ltb-false, cond_both, true≢false}
 use Rattle.std.proofs.lemmas.Bool.Decides.{nat_tests}
@@ -7,14 +7,14 @@ use Rattle.nodes.specs.declared.node.Node.{Node}
 use Rattle.nodes.specs.declared.place.Place.{Place}
 use Rattle.nodes.specs.declared.refusal.Fault.{Fault}
 use Rattle.nodes.specs.declared.refusal.Refusal.TheVariants.{TurnLimit, HandsDiffer}
-use Rattle.nodes.specs.declared.side.Hand.TheVariants.{Held}
 use Rattle.nodes.specs.Node.{place_of}
 use Rattle.nodes.specs.Place.{before}
-use Rattle.nodes.specs.Side.{hand_of}
+use Rattle.nodes.specs.Source.{answer}
+use Rattle.nodes.specs.Turns.{turn_fault}
 use Rattle.nodes.proofs.Made.{same_node_lem}
 use Rattle.layers.specs.declared.turn.Turn.TheVariants.{First, Second, Both, Differ}
 use Rattle.layers.specs.Turn.{next_turn, meeting, same_node}
-use Rattle.layers.specs.Union.{Listing, stops, gives, had, onward, refused_turn, united, union_of}
+use Rattle.layers.specs.Union.{Listing, stops, gives, had, onward, united, union_of}
 use Rattle.layers.specs.Joined.{Holds, Either, Rising, Agree, Cause, of_first, of_second, used_up, differing, Joined}
 
 -- places
@@ -25,18 +25,10 @@ before-not : (p : Place) → before p p ≡ true → ⊥
 before-not p h = grind (arith, nat_tests)
 
 same_place : (p q : Place) → before p q ≡ false → before q p ≡ false → p ≡ q
-same_place p q h k =
-    let d : p.document ≡ q.document = grind (arith, nat_tests) in
-    let s : p.start ≡ q.start = grind (arith, nat_tests) in
-    λ i. record { document = d i; start = s i }
+same_place p q h k = grind (arith, nat_tests)
 
 same_all : (x y : Node) → same_node x y ≡ true → x ≡ y
-same_all x y h =
-    let d : x.document ≡ y.document = grind (arith, nat_tests) in
-    let s : x.start ≡ y.start = grind (arith, nat_tests) in
-    let e : x.end ≡ y.end = grind (arith, nat_tests) in
-    let l : x.level ≡ y.level = grind (arith, nat_tests) in
-    same_node_lem x y (λ i. record { document = d i; start = s i; end = e i; level = l i })
+same_all x y h = same_node_lem x y (grind (arith, nat_tests))
 
 same_self : (x : Node) → same_node x x ≡ true
 same_self x = grind (arith, nat_tests)
@@ -50,34 +42,34 @@ Ahead n (m ∷ ms) = before (place_of n) (place_of m) ≡ true
 module _ (name : ℕ) (EX EY : Option Fault) (P : ℕ → List Node → List Node → Listing → Type 0)
     (faulty : (k : ℕ) (X Y : List Node) (f : Fault) → (EX ≡ Some f) ⊎ (EY ≡ Some f) → P k X Y (stops (Some f)))
     (ended : (k : ℕ) → EX ≡ None → EY ≡ None → P k [] [] (stops None))
-    (limit : (k : ℕ) (X Y : List Node) (n : Node) → Either X Y n → max_turns ≤ k → P k X Y (stops (Some (refused_turn TurnLimit name k))))
-    (differ : (k : ℕ) (x : Node) (xs : List Node) (y : Node) (ys : List Node) → place_of x ≡ place_of y → same_node x y ≡ false → P k (x ∷ xs) (y ∷ ys) (stops (Some (refused_turn HandsDiffer name k))))
+    (limit : (k : ℕ) (X Y : List Node) (n : Node) → Either X Y n → max_turns ≤ k → P k X Y (stops (Some (turn_fault name k TurnLimit))))
+    (differ : (k : ℕ) (x : Node) (xs : List Node) (y : Node) (ys : List Node) → place_of x ≡ place_of y → same_node x y ≡ false → P k (x ∷ xs) (y ∷ ys) (stops (Some (turn_fault name k HandsDiffer))))
     (first : (k : ℕ) (x : Node) (xs Y : List Node) (l : Listing) → Ahead x Y → k < max_turns → P (k + 1) xs Y l → P k (x ∷ xs) Y (gives x l))
     (second : (k : ℕ) (X : List Node) (y : Node) (ys : List Node) (l : Listing) → Ahead y X → k < max_turns → P (k + 1) X ys l → P k X (y ∷ ys) (gives y l))
     (both : (k : ℕ) (x : Node) (xs : List Node) (y : Node) (ys : List Node) (l : Listing) → x ≡ y → k < max_turns → P (k + 1) xs ys l → P k (x ∷ xs) (y ∷ ys) (gives x l)) where
-  none : (ex ey : Option Fault) → EX ≡ ex → EY ≡ ey → (k : ℕ) → P k [] [] (onward name k (next_turn (hand_of [] ex) (hand_of [] ey)) (stops None) (stops None) (stops None))
+  none : (ex ey : Option Fault) → EX ≡ ex → EY ≡ ey → (k : ℕ) → P k [] [] (onward name k (next_turn (answer [] ex) (answer [] ey)) (stops None) (stops None) (stops None))
   none None None a b k = ended k a b
   none None (Some g) a b k = faulty k [] [] g (inr b)
   none (Some f) ey a b k = faulty k [] [] f (inl a)
 
   only_first : (ey : Option Fault) → EY ≡ ey → (k : ℕ) (x : Node) (xs : List Node) (l : Listing) → P (k + 1) xs [] l →
-      P k (x ∷ xs) [] (onward name k (next_turn (Held x) (hand_of [] ey)) l (stops None) (stops None))
+      P k (x ∷ xs) [] (onward name k (next_turn (Ok (Some x)) (answer [] ey)) l (stops None) (stops None))
   only_first None b k x xs l p =
-      cond_both (ltb k max_turns) (gives x l) (stops (Some (refused_turn TurnLimit name k))) (P k (x ∷ xs) [])
+      cond_both (ltb k max_turns) (gives x l) (stops (Some (turn_fault name k TurnLimit))) (P k (x ∷ xs) [])
       (λ t. first k x xs [] l tt (ltb-true k max_turns t) p) (λ t. limit k (x ∷ xs) [] x (inl (Memᴰ.head refl)) (ltb-false k max_turns t))
   only_first (Some g) b k x xs l p = faulty k (x ∷ xs) [] g (inr b)
 
   only_second : (ex : Option Fault) → EX ≡ ex → (k : ℕ) (y : Node) (ys : List Node) (l : Listing) → P (k + 1) [] ys l →
-      P k [] (y ∷ ys) (onward name k (next_turn (hand_of [] ex) (Held y)) (stops None) l (stops None))
+      P k [] (y ∷ ys) (onward name k (next_turn (answer [] ex) (Ok (Some y))) (stops None) l (stops None))
   only_second None a k y ys l p =
-      cond_both (ltb k max_turns) (gives y l) (stops (Some (refused_turn TurnLimit name k))) (P k [] (y ∷ ys))
+      cond_both (ltb k max_turns) (gives y l) (stops (Some (turn_fault name k TurnLimit))) (P k [] (y ∷ ys))
       (λ t. second k [] y ys l tt (ltb-true k max_turns t) p) (λ t. limit k [] (y ∷ ys) y (inr (Memᴰ.head refl)) (ltb-false k max_turns t))
   only_second (Some f) a k y ys l p = faulty k [] (y ∷ ys) f (inl a)
 
   meets : (k : ℕ) (x : Node) (xs : List Node) (y : Node) (ys : List Node) (a b c : Listing) → P (k + 1) xs (y ∷ ys) a → P (k + 1) (x ∷ xs) ys b → P (k + 1) xs ys c →
-      P k (x ∷ xs) (y ∷ ys) (onward name k (next_turn (Held x) (Held y)) a b c)
+      P k (x ∷ xs) (y ∷ ys) (onward name k (next_turn (Ok (Some x)) (Ok (Some y))) a b c)
   meets k x xs y ys a b c p q r =
-      cond_both (ltb k max_turns) (had name k (meeting x y) a b c) (stops (Some (refused_turn TurnLimit name k))) (P k (x ∷ xs) (y ∷ ys))
+      cond_both (ltb k max_turns) (had name k (meeting x y) a b c) (stops (Some (turn_fault name k TurnLimit))) (P k (x ∷ xs) (y ∷ ys))
       (λ t. cond_both (before (place_of x) (place_of y)) (First x) (cond (before (place_of y) (place_of x)) (Second y) (cond (same_node x y) (Both x) Differ)) (λ w. P k (x ∷ xs) (y ∷ ys) (had name k w a b c))
       (λ h. first k x xs (y ∷ ys) a h (ltb-true k max_turns t) p)
       (λ h. cond_both (before (place_of y) (place_of x)) (Second y) (cond (same_node x y) (Both x) Differ) (λ w. P k (x ∷ xs) (y ∷ ys) (had name k w a b c))
@@ -155,10 +147,10 @@ module _ (EX EY : Option Fault) where
   whole : (name k : ℕ) (X Y : List Node) → Whole k X Y (united name k X EX Y EY)
   whole name =
       by_turns name EX EY Whole
-      (λ k X Y f h e. let z : ◌≡◌ {A = ℕ} 0 1 = cc in absurd (omega arith))
+      (λ k X Y f h e. grind arith)
       (λ k a b e. (λ n h. ⊎_elim (nothing n) (nothing n) h, a, b))
-      (λ k X Y n i l e. let z : ◌≡◌ {A = ℕ} 0 1 = cc in absurd (omega arith))
-      (λ k x xs y ys h i e. let z : ◌≡◌ {A = ℕ} 0 1 = cc in absurd (omega arith))
+      (λ k X Y n i l e. grind arith)
+      (λ k x xs y ys h i e. grind arith)
       (λ k x xs Y l a t p e. (
         λ n h. ⊎_elim (λ i. ⊎_elim (λ q. Memᴰ.head q) (λ j. Memᴰ.tail ((p e).0 n (inl j))) (Memᴰ.cases_cons i)) (λ j. Memᴰ.tail ((p e).0 n (inr j))) h,
         (p e).1,
@@ -186,7 +178,7 @@ module _ (EX EY : Option Fault) where
   ending : (name k : ℕ) (X Y : List Node) → Ending k X Y (united name k X EX Y EY)
   ending name =
       by_turns name EX EY Ending
-      (λ k X Y f h a b rx ry g ns m c. ⊎_elim (λ e. let z : ◌≡◌ {A = ℕ} 0 1 = cc in absurd (omega arith)) (λ e. let z : ◌≡◌ {A = ℕ} 0 1 = cc in absurd (omega arith)) h)
+      (λ k X Y f h a b rx ry g ns m c. ⊎_elim (λ e. grind arith) (λ e. grind arith) h)
       (λ k a b _ _ _ _ _ _ _ _. refl)
       (λ k X Y n i l a b rx ry g ns m c. let w = without ns n (c n i) in let q = w.1 in absurd (omega arith))
       (λ k x xs y ys h i a b rx ry g ns m c.
@@ -216,8 +208,8 @@ wider : (name h k : ℕ) (X X' : List Node) (EX : Option Fault) (Y Y' : List Nod
     Cause name h (to X EX) (to Y EY) f → Cause name k (to X' EX) (to Y' EY) f
 wider name h k X X' EX Y Y' EY f e p q (of_first c) = of_first c
 wider name h k X X' EX Y Y' EY f e p q (of_second c) = of_second c
-wider name h k X X' EX Y Y' EY f e p q (used_up c m) = used_up (c ∙ ap (refused_turn TurnLimit name) e) (sym e ∙ m)
-wider name h k X X' EX Y Y' EY f e p q (differing c x y i j w ne) = differing (c ∙ ap (refused_turn HandsDiffer name) e) x y (p x i) (q y j) w ne
+wider name h k X X' EX Y Y' EY f e p q (used_up c m) = used_up (c ∙ ap (λ h. turn_fault name h TurnLimit) e) (sym e ∙ m)
+wider name h k X X' EX Y Y' EY f e p q (differing c x y i j w ne) = differing (c ∙ ap (λ h. turn_fault name h HandsDiffer) e) x y (p x i) (q y j) w ne
 
 module _ (name : ℕ) (EX EY : Option Fault) where
   abbrev Caused : ℕ → List Node → List Node → Listing → Type 0
@@ -227,10 +219,10 @@ module _ (name : ℕ) (EX EY : Option Fault) where
   caused =
       by_turns name EX EY Caused
       (λ k X Y g h m f e. ⊎_elim (λ a. of_first (a ∙ e)) (λ b. of_second (b ∙ e)) h)
-      (λ k a b m f e. let z : ◌≡◌ {A = ℕ} 0 1 = cc in absurd (omega arith))
-      (λ k X Y n i l m f e. let z : f ≡ refused_turn TurnLimit name k = cc in let q : k ≡ max_turns = omega arith in rw add-zero (used_up z q))
+      (λ k a b m f e. grind arith)
+      (λ k X Y n i l m f e. let z : f ≡ turn_fault name k TurnLimit = cc in let q : k ≡ max_turns = omega arith in rw add-zero (used_up z q))
       (λ k x xs y ys h i m f e.
-      let z : f ≡ refused_turn HandsDiffer name k = cc in
+      let z : f ≡ turn_fault name k HandsDiffer = cc in
       rw add-zero (differing z x y (Memᴰ.head refl) (Memᴰ.head refl) h (λ s. true≢false (sym (same_self x) ∙ ap (same_node x) s ∙ i))))
       (λ k x xs Y l a t p m f e.
       let q : k + 1 + length l.nodes ≡ k + length (x ∷ l.nodes) = omega arith in
@@ -257,7 +249,3 @@ joined name a b =
           wider name _ _ a.nodes a.nodes a.ending b.nodes b.nodes b.ending f (zero-add _) (λ n i. i) (λ n i. i)
           (caused name a.ending b.ending 0 a.nodes b.nodes (omega arith) f e);
     }
-
--- a union of listings is that of listings with the same nodes and endings
-pub same_union : (name : ℕ) (u a b a' b' : Listing) → u ≡ union_of name a b → a.nodes ≡ a'.nodes → a.ending ≡ a'.ending → b.nodes ≡ b'.nodes → b.ending ≡ b'.ending → u ≡ union_of name a' b'
-same_union name u a b a' b' e p q r s = rw (← p, ← q, ← r, ← s) e

@@ -6,7 +6,8 @@ use Rattle.nodes.specs.declared.refusal.Fault.{Fault}
 use Rattle.nodes.specs.declared.refusal.Refusal.TheVariants.{TurnLimit, HandsDiffer}
 use Rattle.nodes.specs.Node.{place_of}
 use Rattle.nodes.specs.Place.{before}
-use Rattle.layers.specs.Union.{Listing, refused_turn}
+use Rattle.nodes.specs.Turns.{turn_fault}
+use Rattle.layers.specs.Union.{Listing}
 
 -- a list holds a node
 abbrev pub Holds : List Node → Node → Type 0
@@ -34,8 +35,8 @@ AtMost k xs ys = (ns : List Node) × (length ns ≤ k) × ((n : Node) → Either
 pub data Cause (name turns : ℕ) (a b : Listing) (f : Fault) : Type 0 where
   of_first : a.ending ≡ Some f → Cause name turns a b f
   of_second : b.ending ≡ Some f → Cause name turns a b f
-  used_up : f ≡ refused_turn TurnLimit name turns → turns ≡ max_turns → Cause name turns a b f
-  differing : f ≡ refused_turn HandsDiffer name turns → (x y : Node) → Holds a.nodes x → Holds b.nodes y → place_of x ≡ place_of y → (x ≢ y) → Cause name turns a b f
+  used_up : f ≡ turn_fault name turns TurnLimit → turns ≡ max_turns → Cause name turns a b f
+  differing : f ≡ turn_fault name turns HandsDiffer → (x y : Node) → Holds a.nodes x → Holds b.nodes y → place_of x ≡ place_of y → (x ≢ y) → Cause name turns a b f
 
 -- what the union u of a and b is: where both rise, it rises; it holds only nodes of either; where it comes to the end, it holds all of them, and both came to their end;
 -- it comes to the end where both rise to their end, agree, and have no more different nodes than a union may have turns; and it stops by a fault for a cause only

@@ -5,6 +5,7 @@ ghost use Rattle.layers.specs.Levels.{between, keep_levels, levels_nodes, levels
 
 use nodes::node::Node;
 use nodes::refusal::Fault;
+use nodes::row::Row;
 use nodes::source::NodeSource;
 
 /// The nodes of a source whose level lies between two levels, both included.
@@ -13,13 +14,6 @@ pub struct Levels<S> {
     source: S,
     lowest: u8,
     deepest: u8,
-}
-
-/// Whether a level lies between two levels, both included.
-fn is_between(lowest: u8, deepest: u8, level: u8) -> bool
-    ensures { result ≡ between lowest deepest level }
-{
-    lowest <= level && level <= deepest
 }
 
 impl<S: NodeSource> Levels<S> {
@@ -37,6 +31,15 @@ impl<S: NodeSource> Levels<S> {
     }
 }
 
+impl<S> Levels<S> {
+    /// Whether a node's level lies between the two.
+    fn keeps(&self, node: Node) -> bool
+        ensures { result ≡ between self.now.lowest self.now.deepest node.level }
+    {
+        (self.lowest..=self.deepest).contains(&Row::from(node).level)
+    }
+}
+
 impl<S: NodeSource> NodeSource for Levels<S> {
     ghost coming = { levels_nodes S.NodeSource };
 
@@ -44,7 +47,7 @@ impl<S: NodeSource> NodeSource for Levels<S> {
 
     fn take(&mut self) -> Result<Option<Node>, Fault> {
         while let Some(node) = self.source.take()? {
-            if is_between(self.lowest, self.deepest, node.row().level) {
+            if self.keeps(node) {
                 return Ok(Some(node));
             }
         }

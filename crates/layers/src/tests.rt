@@ -5,6 +5,7 @@ use nodes::row::Row;
 use nodes::source::NodeSource;
 use std::process::Abort;
 
+// A row of document 7; each crate's tests have their own, since no crate lends its tests.
 fn row(start: u32, end: u32, level: u8) -> Row {
     Row {
         document: 7,
@@ -17,20 +18,15 @@ fn row(start: u32, end: u32, level: u8) -> Row {
 // What a source gives next: 0 and a node's start; 255 at its end; a fault's number, name and place.
 fn told<S: NodeSource>(source: &mut S) -> (u8, u16, u32) {
     match source.take() {
-        Ok(taken) => match taken {
-            Some(node) => (0, 0, node.row().start),
-            None => (255, 0, 0),
-        },
+        Ok(Some(node)) => (0, 0, Row::from(node).start),
+        Ok(None) => (255, 0, 0),
         Err(fault) => (fault.refusal.number(), fault.name, fault.place),
     }
 }
 
 fn tells<S: NodeSource>(rt: &impl Abort, source: &mut S, expected: &[(u8, u16, u32)]) {
     for next in expected {
-        let got = told(source);
-        assert_eq!(rt; got.0, next.0);
-        assert_eq!(rt; got.1, next.1);
-        assert_eq!(rt; got.2, next.2);
+        assert_eq!(rt; told(source), *next);
     }
 }
 
@@ -77,9 +73,9 @@ fn a_union_takes_hands_and_faults_in_order(rt: HostRuntime) {
             [(0, 0, 12), (13, 9, 2), (13, 9, 2), (13, 9, 2)],
         ),
     ];
-    for case in cases {
-        let mut union = Union::new(ListSource::new(&case.0, 1), ListSource::new(&case.1, 2), 9);
-        tells(&rt, &mut union, &case.2);
+    for (first, second, expected) in cases {
+        let mut union = Union::new(ListSource::new(&first, 1), ListSource::new(&second, 2), 9);
+        tells(&rt, &mut union, &expected);
     }
 }
 

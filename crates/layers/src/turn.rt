@@ -1,11 +1,11 @@
 //! Whose turn is next, by what two sides have in hand.
 
 ghost use Rattle.std.specs.Prelude.{◌≡◌};
-ghost use Rattle.layers.specs.Turn.{next_turn, meeting, same_node};
+ghost use Rattle.layers.specs.Turn.{next_turn, meeting};
 
 use nodes::node::Node;
 use nodes::refusal::Fault;
-use nodes::side::Hand;
+use std::cmp::Ordering;
 
 /// A turn: the node that it gives, and from which hands; or two hands that differ at one place.
 #[derive(Clone, Copy)]
@@ -16,47 +16,29 @@ pub enum Turn {
     Differ,
 }
 
-/// Whether two nodes agree in all four numbers.
-fn same(first: Node, second: Node) -> bool
-    ensures { result ≡ same_node first second }
-{
-    let a = first.row();
-    let b = second.row();
-    a.document == b.document && a.start == b.start && a.end == b.end && a.level == b.level
-}
-
 /// Whose turn it is where both hands hold a node: the smaller place; equal nodes go together.
 fn meet(first: Node, second: Node) -> Turn
     ensures { result ≡ meeting first second }
 {
-    if first.place().is_before(second.place()) {
-        return Turn::First(first);
-    }
-    if second.place().is_before(first.place()) {
-        return Turn::Second(second);
-    }
-    if same(first, second) {
-        Turn::Both(first)
-    } else {
-        Turn::Differ
+    match first.place().cmp(&second.place()) {
+        Ordering::Less => Turn::First(first),
+        Ordering::Greater => Turn::Second(second),
+        Ordering::Equal if first == second => Turn::Both(first),
+        Ordering::Equal => Turn::Differ,
     }
 }
 
 /// The turn that is next, or the end; a fault in hand comes before all, the first side's first.
-pub fn next_turn(first: Hand, second: Hand) -> Result<Option<Turn>, Fault>
+pub fn next_turn(
+    first: Result<Option<Node>, Fault>,
+    second: Result<Option<Node>, Fault>,
+) -> Result<Option<Turn>, Fault>
     ensures { result ≡ next_turn first second }
 {
-    match first {
-        Hand::Faulty(fault) => Err(fault),
-        Hand::Ended => match second {
-            Hand::Faulty(other) => Err(other),
-            Hand::Ended => Ok(None),
-            Hand::Held(node) => Ok(Some(Turn::Second(node))),
-        },
-        Hand::Held(node) => match second {
-            Hand::Faulty(other) => Err(other),
-            Hand::Ended => Ok(Some(Turn::First(node))),
-            Hand::Held(other) => Ok(Some(meet(node, other))),
-        },
+    match (first?, second?) {
+        (None, None) => Ok(None),
+        (None, Some(node)) => Ok(Some(Turn::Second(node))),
+        (Some(node), None) => Ok(Some(Turn::First(node))),
+        (Some(node), Some(other)) => Ok(Some(meet(node, other))),
     }
 }

@@ -1,4 +1,5 @@
 pub mod Axes
+pub mod Texts
 pub mod Turns
 pub mod Pairs
 pub mod Stack

@@ -3,11 +3,12 @@
 
 #![tactic(auto)]
 
-pub mod due;
 pub mod laws;
 pub mod merge;
 mod open;
+pub mod opening;
 pub mod pair;
 #[cfg(test)]
 mod tests;
 mod track;
+pub mod turn;

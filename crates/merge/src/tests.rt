@@ -1,10 +1,11 @@
-use crate::due::Due;
 use crate::merge::Merge;
 use crate::pair::Axis;
+use crate::turn::Turn;
 use nodes::list::ListSource;
 use nodes::row::Row;
 use std::test::Fail;
 
+// A row of document 7; each crate's tests have their own, since no crate lends its tests.
 fn row(start: u32, end: u32, level: u8) -> Row {
     Row {
         document: 7,
@@ -19,10 +20,9 @@ fn stop(above: &[Row], below: &[Row]) -> (u8, u32) {
     let mut merge = Merge::open(ListSource::new(above, 1), ListSource::new(below, 2), 3);
     for _ in 0..8 {
         match merge.turn() {
-            Due::Container(_) => {}
-            Due::Contained(_) => {}
-            Due::End => return (0, merge.turns()),
-            Due::Fault(fault) => return (fault.refusal.number(), fault.place),
+            Ok(Some(_)) => {}
+            Ok(None) => return (0, merge.turns()),
+            Err(fault) => return (fault.refusal.number(), fault.place),
         }
     }
     (99, 0)
@@ -58,22 +58,21 @@ fn turns_come_by_place_and_contained_nodes_first(rt: HostRuntime) -> Result<(), 
     let mut merge = Merge::open(ListSource::new(&nodes, 1), ListSource::new(&nodes, 2), 3);
     for pairs in [0, 1] {
         match merge.turn() {
-            Due::Contained(node) => {
+            Ok(Some(Turn::Contained(node))) => {
                 assert!(rt; merge.is_paired(Axis::Child, node) == (pairs == 1));
                 assert!(rt; merge.depth() - merge.first_paired(Axis::Descendant, node) == pairs);
             }
             _ => return Err(Fail::new("the contained node goes first")),
         }
         match merge.turn() {
-            Due::Container(node) => match merge.container(pairs) {
-                Some(top) => assert!(rt; top.row().start == node.row().start),
-                None => return Err(Fail::new("the container is open")),
-            },
-            _ => return Err(Fail::new("then the container")),
+            Ok(Some(Turn::Container(node))) => {
+                assert!(rt; merge.container(pairs) == Some(node));
+            }
+            _ => return Err(Fail::new("then the container, which is open")),
         }
     }
     match merge.turn() {
-        Due::End => Ok(()),
+        Ok(None) => Ok(()),
         _ => Err(Fail::new("and then the end")),
     }
 }
@@ -87,14 +86,14 @@ fn a_refusal_recurs_and_changes_nothing(rt: HostRuntime) -> Result<(), Fail> {
     let _ = merge.turn();
     for _ in 0..2 {
         match merge.turn() {
-            Due::Fault(fault) => assert!(rt;
+            Err(fault) => assert!(rt;
                 fault.refusal.number() == 15 && fault.name == 3 && fault.place == 3
             ),
             _ => return Err(Fail::new("the node touches the container's end")),
         }
         assert!(rt; merge.turns() == 2 && merge.depth() == 2);
         match merge.peek() {
-            Due::Contained(node) => assert!(rt; node.row().start == 41),
+            Ok(Some(Turn::Contained(node))) => assert!(rt; Row::from(node).start == 41),
             _ => return Err(Fail::new("the refused node stays in hand")),
         }
     }

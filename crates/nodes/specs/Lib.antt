@@ -1,8 +1,10 @@
 pub mod Limits
 pub mod Refusals
+pub mod Texts
 pub mod Place
 pub mod Node
 pub mod Source
+pub mod Turns
 pub mod Rows
 pub mod Side
 pub mod Bytes

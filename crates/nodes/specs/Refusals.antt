@@ -1,5 +1,6 @@
 use Rattle.std.specs.Prelude.{ℕ}
 use Rattle.nodes.specs.declared.refusal.Refusal.{Refusal}
+use Rattle.nodes.specs.declared.refusal.Fault.{Fault}
 use Rattle.nodes.specs.declared.refusal.Refusal.TheVariants.{TooLong, UnknownCommand, ShortCommand, Misplaced, DocumentOrder, TooDeep, OutsideElement, CloseElsewhere, ShortRecord, OutOfRange, StartPassesEnd, TurnLimit, HandsDiffer, NotRising, Overlap, LevelNotDeeper, QueryLength, QueryCommand, ListFull, NoRoom, BrokenOpen}
 
 -- the number of each refusal
@@ -25,3 +26,7 @@ number QueryCommand = 18
 number ListFull = 19
 number NoRoom = 20
 number BrokenOpen = 21
+
+-- the fault of a refusal, told under a name
+abbrev pub fault_by : Refusal → (name place : ℕ) → Fault
+fault_by f name at = record { refusal = f; name = name; place = at }

@@ -5,6 +5,7 @@ use Rattle.nodes.specs.declared.node.Node.{Node}
 use Rattle.nodes.specs.declared.refusal.Refusal.{Refusal}
 use Rattle.nodes.specs.declared.refusal.Fault.{Fault}
 use Rattle.nodes.specs.declared.list.ListSource.{ListSource}
+use Rattle.nodes.specs.Refusals.{fault_by}
 use Rattle.nodes.specs.Node.{node_of}
 
 -- a node in front of others; nothing where the row was wrong
@@ -12,9 +13,13 @@ abbrev pub cons_ok : Result Node Refusal → List Node → List Node
 cons_ok (Ok n) ns = n ∷ ns
 cons_ok (Err f) ns = []
 
--- the fault of the row with a number, which its place tells as far as a place can
+-- the place of the row with a number, which it tells as far as a place can
+abbrev pub place_at : ℕ → ℕ
+place_at at = min at max_place
+
+-- the fault of that row
 abbrev pub fault_at : Refusal → (name at : ℕ) → Fault
-fault_at f name at = record { refusal = f; name = name; place = min at max_place }
+fault_at f name at = fault_by f name (place_at at)
 
 -- the fault of a wrong row; what follows where it was right
 abbrev pub fault_or : Result Node Refusal → (name place : ℕ) → Option Fault → Option Fault

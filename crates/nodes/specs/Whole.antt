@@ -3,6 +3,7 @@ use Rattle.nodes.specs.declared.tagged.Tagged.{Tagged}
 use Rattle.nodes.specs.declared.node.Node.{Node}
 use Rattle.nodes.specs.declared.refusal.Refusal.{Refusal}
 use Rattle.nodes.specs.declared.refusal.Fault.{Fault}
+use Rattle.nodes.specs.Refusals.{fault_by}
 use Rattle.nodes.specs.Node.{as_node}
 
 -- a refusal, and where it falls
@@ -34,10 +35,6 @@ keep_if false n ns = ns
 abbrev pub of_tag : ℕ → List Tagged → List Node
 of_tag tag [] = []
 of_tag tag (x ∷ xs) = keep_if (x.tag == tag) (as_node x.row) (of_tag tag xs)
-
--- the fault of a refusal, told under a name
-abbrev pub fault_by : Refusal → (name place : ℕ) → Fault
-fault_by f name at = record { refusal = f; name = name; place = at }
 
 -- the ending, told under a name
 abbrev pub named : ℕ → Option Stop → Option Fault

@@ -15,3 +15,4 @@ pub mod source;
 pub mod tagged;
 #[cfg(test)]
 mod tests;
+pub mod turns;

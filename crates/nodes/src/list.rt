@@ -1,11 +1,11 @@
 //! The source over a caller's list of rows.
 
 ghost use Rattle.std.specs.Prelude.{◌≡◌};
-ghost use Rattle.nodes.specs.Rows.{nodes_in, end_in, coming_from, ending_from, fault_at};
+ghost use Rattle.nodes.specs.Rows.{nodes_in, end_in, coming_from, ending_from, place_at};
 
 use crate::limits::MAX_PLACE;
 use crate::node::Node;
-use crate::refusal::{Fault, Refusal};
+use crate::refusal::Fault;
 use crate::row::Row;
 use crate::source::NodeSource;
 
@@ -26,21 +26,11 @@ impl<'a> ListSource<'a> {
         ListSource { rows, at: 0, name }
     }
 
-    /// The fault of the row in front: its place is the row's number, or the greatest that there is.
-    fn fault(&self, refusal: Refusal) -> Fault
-        ensures { result ≡ fault_at refusal self.now.name self.now.at }
+    /// The place of the row in front: its number, or the greatest place that there is.
+    fn place(&self) -> u32
+        ensures { result ≡ place_at self.now.at }
     {
-        let place = if self.at > MAX_PLACE as usize {
-            MAX_PLACE
-        } else {
-            self.at as u32
-        };
-        let name = self.name;
-        Fault {
-            refusal,
-            name,
-            place,
-        }
+        u32::try_from(self.at).unwrap_or(MAX_PLACE)
     }
 }
 
@@ -50,16 +40,16 @@ impl<'a> NodeSource for ListSource<'a> {
     ghost ending = { ending_from };
 
     fn take(&mut self) -> Result<Option<Node>, Fault> {
-        if self.at >= self.rows.len() {
+        let Some(row) = self.rows.get(self.at) else {
             return Ok(None);
-        }
-        let row = self.rows[self.at];
-        match row.check() {
+        };
+        // Not map_err: of the match the check finds every proof, of a closure's call it leaves one.
+        match Node::try_from(*row) {
             Ok(node) => {
                 self.at += 1;
                 Ok(Some(node))
             }
-            Err(refusal) => Err(self.fault(refusal)),
+            Err(refusal) => Err(refusal.at(self.name, self.place())),
         }
     }
 }

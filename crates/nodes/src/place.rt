@@ -3,8 +3,9 @@
 ghost use Rattle.std.specs.Prelude.{◌≡◌};
 ghost use Rattle.nodes.specs.Place.{before};
 
-/// Where a node stands: its document, and then its start. Tree order is rising place.
-#[derive(Clone, Copy, PartialEq, Eq, Debug)]
+/// Where a node stands: its document, and then its start. Tree order is rising place, so the order
+/// of the fields is the order of places.
+#[derive(Clone, Copy, PartialEq, Eq, PartialOrd, Ord, Debug)]
 pub struct Place {
     pub document: u32,
     pub start: u32,
@@ -15,7 +16,6 @@ impl Place {
     pub fn is_before(self, other: Place) -> bool
         ensures { result ≡ before self other }
     {
-        self.document < other.document
-            || self.document == other.document && self.start < other.start
+        self < other
     }
 }

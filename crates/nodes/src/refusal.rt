@@ -1,53 +1,57 @@
 //! Why something is refused, and the fault that tells it.
 
-ghost use Rattle.std.specs.Prelude.{◌≡◌};
-ghost use Rattle.nodes.specs.Refusals.{number};
+ghost use Rattle.std.specs.Prelude.{◌≡◌, Some};
+ghost use Rattle.nodes.specs.Refusals.{number, fault_by};
+ghost use Rattle.nodes.specs.Texts.{fault_text};
 
-/// Every refusal of the engine, in the order of their numbers.
+use std::error::Error;
+use std::fmt;
+
+/// Every refusal of the engine, each with its number.
 #[derive(Clone, Copy, PartialEq, Eq, Debug)]
 pub enum Refusal {
     /// The tape or posting list is longer than a tape may be.
-    TooLong,
+    TooLong = 1,
     /// The command byte is none of the five.
-    UnknownCommand,
+    UnknownCommand = 2,
     /// Fewer bytes remain than the command's operands need.
-    ShortCommand,
+    ShortCommand = 3,
     /// The command cannot stand here, or the tape stops inside a document.
-    Misplaced,
+    Misplaced = 4,
     /// The document is above the greatest, or not greater than the one before.
-    DocumentOrder,
+    DocumentOrder = 5,
     /// The level would pass the deepest.
-    TooDeep,
+    TooDeep = 6,
     /// An OPEN or VALUE, or the CLOSE offset of an OPEN, lies outside the element around it.
-    OutsideElement,
+    OutsideElement = 7,
     /// The CLOSE is not where its OPEN says.
-    CloseElsewhere,
+    CloseElsewhere = 8,
     /// Fewer bytes remain than a record has.
-    ShortRecord,
+    ShortRecord = 9,
     /// The document or the level of a row is out of its range.
-    OutOfRange,
+    OutOfRange = 10,
     /// The start of a row passes its end.
-    StartPassesEnd,
+    StartPassesEnd = 11,
     /// The turns are used up, and another node is in hand.
-    TurnLimit,
+    TurnLimit = 12,
     /// Two different nodes stand at one place of a union.
-    HandsDiffer,
+    HandsDiffer = 13,
     /// The node's place is not after every earlier one of its side.
-    NotRising,
+    NotRising = 14,
     /// An earlier container ends inside the node.
-    Overlap,
+    Overlap = 15,
     /// An earlier container contains the node and has no smaller level.
-    LevelNotDeeper,
+    LevelNotDeeper = 16,
     /// The query is not 3 to 24 bytes in steps of 3.
-    QueryLength,
+    QueryLength = 17,
     /// The command of a step is none of the two.
-    QueryCommand,
+    QueryCommand = 18,
     /// More nodes fit a step than the shorter list holds.
-    ListFull,
+    ListFull = 19,
     /// Writing would pass the caller's bytes, or the length that a tape may have.
-    NoRoom,
+    NoRoom = 20,
     /// The innermost OPEN is not as the writer left it.
-    BrokenOpen,
+    BrokenOpen = 21,
 }
 
 impl Refusal {
@@ -55,28 +59,17 @@ impl Refusal {
     pub fn number(self) -> u8
         ensures { result ≡ number self }
     {
-        match self {
-            Refusal::TooLong => 1,
-            Refusal::UnknownCommand => 2,
-            Refusal::ShortCommand => 3,
-            Refusal::Misplaced => 4,
-            Refusal::DocumentOrder => 5,
-            Refusal::TooDeep => 6,
-            Refusal::OutsideElement => 7,
-            Refusal::CloseElsewhere => 8,
-            Refusal::ShortRecord => 9,
-            Refusal::OutOfRange => 10,
-            Refusal::StartPassesEnd => 11,
-            Refusal::TurnLimit => 12,
-            Refusal::HandsDiffer => 13,
-            Refusal::NotRising => 14,
-            Refusal::Overlap => 15,
-            Refusal::LevelNotDeeper => 16,
-            Refusal::QueryLength => 17,
-            Refusal::QueryCommand => 18,
-            Refusal::ListFull => 19,
-            Refusal::NoRoom => 20,
-            Refusal::BrokenOpen => 21,
+        self as u8
+    }
+
+    /// The fault of this refusal, told under a name.
+    pub fn at(self, name: u16, place: u32) -> Fault
+        ensures { result ≡ fault_by self name place }
+    {
+        Fault {
+            refusal: self,
+            name,
+            place,
         }
     }
 }
@@ -88,3 +81,18 @@ pub struct Fault {
     pub name: u16,
     pub place: u32,
 }
+
+impl fmt::Display for Fault {
+    ghost output = { λ fault. Some (fault_text fault) };
+
+    fn fmt<W: fmt::Write>(&self, f: &mut fmt::Formatter<W>) -> fmt::Result {
+        let number = self.refusal.number();
+        write!(
+            f,
+            "refusal {number} at {}, found by {}",
+            self.place, self.name
+        )
+    }
+}
+
+impl Error for Fault {}

@@ -1,6 +1,6 @@
 //! A row: how a node lies in a list, a cell or an array.
 
-/// Four plain numbers, which may be anything; the check in `node::calls` makes a node of them.
+/// Four plain numbers, which may be anything; `Node::try_from` makes a node of them.
 #[derive(Clone, Copy, PartialEq, Eq, Debug)]
 pub struct Row {
     pub document: u32,

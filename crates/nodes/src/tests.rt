@@ -1,4 +1,5 @@
 use crate::list::ListSource;
+use crate::node::Node;
 use crate::place::Place;
 use crate::row::Row;
 use crate::source::NodeSource;
@@ -15,7 +16,7 @@ fn row(document: u32, start: u32, end: u32, level: u8) -> Row {
 
 // The number by which a row is refused, and 0 for a node's row.
 fn refused(row: Row) -> u8 {
-    match row.check() {
+    match Node::try_from(row) {
         Ok(_) => 0,
         Err(refusal) => refusal.number(),
     }
@@ -35,8 +36,11 @@ fn ranges_are_tested_before_the_order(rt: HostRuntime) {
     for case in cases {
         assert_eq!(rt; refused(case.0), case.1);
     }
-    assert_eq!(rt; row(7, 2, 1, 64).node_or_blank().row(), Row::BLANK);
-    assert_eq!(rt; row(7, 1, 2, 64).node_or_blank().row(), row(7, 1, 2, 64));
+    assert_eq!(rt; Row::from(row(7, 2, 1, 64).node_or_blank()), Row::BLANK);
+    assert_eq!(rt;
+        Row::from(row(7, 1, 2, 64).node_or_blank()),
+        row(7, 1, 2, 64)
+    );
 }
 
 #[test]
@@ -83,14 +87,10 @@ fn containment_is_strict(rt: HostRuntime) {
 fn a_list_ends_at_its_first_wrong_row(rt: HostRuntime) -> Result<(), Fail> {
     let rows = [row(7, 12, 41, 2), row(7, 5, 4, 1), row(7, 26, 40, 3)];
     let mut source = ListSource::new(&rows, 9);
-    let first = match source.take() {
-        Ok(taken) => match taken {
-            Some(node) => node.row(),
-            None => Row::BLANK,
-        },
-        Err(_) => Row::BLANK,
-    };
-    assert_eq!(rt; first, row(7, 12, 41, 2));
+    match source.take() {
+        Ok(Some(first)) => assert_eq!(rt; Row::from(first), row(7, 12, 41, 2)),
+        _ => return Err(Fail::new("the first row is a node's")),
+    }
     for _ in 0..2 {
         match source.take() {
             Ok(_) => return Err(Fail::new("the wrong row was passed over")),
@@ -102,10 +102,7 @@ fn a_list_ends_at_its_first_wrong_row(rt: HostRuntime) -> Result<(), Fail> {
     let mut sound = ListSource::new(&rows[0..1], 9);
     let _ = sound.take();
     match sound.take() {
-        Ok(taken) => {
-            assert!(rt; taken.is_none());
-            Ok(())
-        },
-        Err(_) => Err(Fail::new("a sound list ends")),
+        Ok(None) => Ok(()),
+        _ => Err(Fail::new("a sound list ends")),
     }
 }

@@ -7,7 +7,9 @@ use Rattle.nodes.specs.declared.node.Node.{Node}
 use Rattle.merge.specs.declared.pair.Axis.{Axis}
 use Rattle.merge.specs.declared.pair.Axis.TheVariants.{Child, Descendant}
 use Rattle.merge.specs.Axes.{fits, pair}
-use Rattle.merge.specs.Turns.{Opening, Turn, outer, inner, outers, inners, earlier, refusal, Course, halts, has, inners_alone, meet, course, course_of, sound, Stop, at_end, in_hand, at_node, fault_of, sound_turns, stop_of}
+use Rattle.merge.specs.declared.turn.Turn.TheVariants.{Container, Contained}
+use Rattle.merge.specs.declared.turn.Turn.{Turn}
+use Rattle.merge.specs.Turns.{Opening, outers, inners, earlier, refusal, Course, halts, has, inners_alone, meet, course, course_of, sound, Stop, at_end, in_hand, at_node, fault_of, sound_turns, stop_of}
 use Rattle.merge.proofs.Judging.{never}
 use Rattle.merge.proofs.Rising.{turns_rise}
 use Rattle.merge.proofs.Ending.{ends_soundly}
@@ -45,8 +47,8 @@ is_first Descendant n h = refl
 
 -- the turns of a course are those of its two lists
 abbrev TurnIs : (P Q : Node → Type 0) → Turn → Type 0
-TurnIs P Q (outer c) = P c
-TurnIs P Q (inner d) = Q d
+TurnIs P Q (Container c) = P c
+TurnIs P Q (Contained d) = Q d
 
 abbrev CourseIs : (P Q : Node → Type 0) → Course → Type 0
 CourseIs P Q (halts e) = Unit {0}
@@ -61,7 +63,7 @@ module _ (P Q : Node → Type 0) where
   meet_is c next a k None [] b = (a, k [] b)
   meet_is c next a k (Some f) [] b = tt
   meet_is c next a k e (d ∷ ds) b =
-      elim (earlier c d) as (λ x. CourseIs P Q (cond x (has (outer c) (next (d ∷ ds))) (has (inner d) (meet c next e ds))))
+      elim (earlier c d) as (λ x. CourseIs P Q (cond x (has (Container c) (next (d ∷ ds))) (has (Contained d) (meet c next e ds))))
       [ true ↦ (a, k (d ∷ ds) b) | false ↦ (b.0, meet_is c next a k e ds b.1) ]
 
   course_is : (cs : List Node) (ce : Option Fault) (ds : List Node) (de : Option Fault) → Every P cs → Every Q ds → CourseIs P Q (course cs ce ds de)
@@ -77,13 +79,13 @@ module _ (P Q : Node → Type 0) where
 
   outers_are : (ts : List Turn) → Every (TurnIs P Q) ts → Every P (outers ts)
   outers_are [] h = tt
-  outers_are (outer c ∷ ts) h = (h.0, outers_are ts h.1)
-  outers_are (inner d ∷ ts) h = outers_are ts h.1
+  outers_are (Container c ∷ ts) h = (h.0, outers_are ts h.1)
+  outers_are (Contained d ∷ ts) h = outers_are ts h.1
 
   inners_are : (ts : List Turn) → Every (TurnIs P Q) ts → Every Q (inners ts)
   inners_are [] h = tt
-  inners_are (outer c ∷ ts) h = inners_are ts h.1
-  inners_are (inner d ∷ ts) h = (h.0, inners_are ts h.1)
+  inners_are (Container c ∷ ts) h = inners_are ts h.1
+  inners_are (Contained d ∷ ts) h = (h.0, inners_are ts h.1)
 
 holds_more : (m : Node) (xs ys : List Node) → Every (Holds xs) ys → Every (Holds (m ∷ xs)) ys
 holds_more m xs [] h = tt

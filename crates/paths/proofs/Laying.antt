@@ -13,8 +13,7 @@ use Rattle.paths.specs.Drain.{drained, laid, Drained}
 use Rattle.merge.specs.Turns.{Opening}
 use Rattle.under.specs.Nodes.{run_ending}
 use Rattle.paths.specs.declared.query.Step.{Step}
-use Rattle.paths.specs.Limits.{step_name}
-use Rattle.paths.specs.Path.{Scope, step_nodes, step_means, ended, taken, counted, given, Laid}
+use Rattle.paths.specs.Path.{Scope, step_opening, step_nodes, step_means, ended, taken, counted, given, Laid}
 
 abbrev ended_at : ℕ → ℕ → Option Fault → Result ℕ StepFault
 ended_at k n None = Ok n
@@ -69,13 +68,9 @@ advanced k room ns e r to part new l d =
           record { answers = d.answers ∙ drained_full k (length part) 0 ns e (omega arith) (omega arith); lays = refl })
     ] refl
 
--- the meaning of a step, from what its two sources mean
-pub step_is : (w : Scope) (k : ℕ) (s : Step) (cs ds cs' : List Node) (ce de ce' : Option Fault) → cs ≡ cs' → ce ≡ ce' → ds ≡ w.list_of s.tag → de ≡ w.ending_of s.tag k
-    → taken k w.room (step_nodes k (record { containers = cs; containers_ending = ce; contained = ds; contained_ending = de; axis = s.axis; name = step_name k })) (run_ending (record { containers = cs; containers_ending = ce; contained = ds; contained_ending = de; axis = s.axis; name = step_name k }))
-    ≡ step_means w k s cs' ce'
-step_is w k s cs ds cs' ce de ce' p q d e = λ i.
-    let o : Opening = record { containers = p i; containers_ending = q i; contained = d i; contained_ending = e i; axis = s.axis; name = step_name k } in
-    taken k w.room (step_nodes k o) (run_ending o)
+-- the meaning of a step, from its run over what a list gives
+pub step_is : (w : Scope) (k : ℕ) (s : Step) {o : Opening} {cs cs' : List Node} {ce ce' : Option Fault} → o ≡ step_opening w k s cs ce → cs ≡ cs' → ce ≡ ce' → taken k w.room (step_nodes k o) (run_ending o) ≡ step_means w k s cs' ce'
+step_is w k s e p q = ap (λ (o : Opening). taken k w.room (step_nodes k o) (run_ending o)) (e ∙ λ i. step_opening w k s (p i) (q i))
 
 pub meant : {F : Type 0} {m m' : Result (List Node) F} {r : Result ℕ F} {new : List Row} → m ≡ m' → Laid m r new → Laid m' r new
 meant {r = r} {new = new} e a = subst (λ z. Laid z r new) e a

@@ -1,5 +1,6 @@
 pub mod Limits
 pub mod Faults
+pub mod Texts
 pub mod Query
 pub mod Drain
 pub mod Path

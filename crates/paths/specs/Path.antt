@@ -96,11 +96,6 @@ abbrev pub given : {F : Type 0} → Result (List Node) F → List Node
 given (Ok ns) = ns
 given (Err f) = []
 
--- so many rows of a list hold an answer
-abbrev pub found : {F : Type 0} → Result ℕ F → ℕ
-found (Ok n) = n
-found (Err f) = 0
-
 -- a row of the blank node, and a list with nothing but such rows from the n-th on
 abbrev pub blank_row : Row
 blank_row = row_of blank

@@ -1,5 +1,6 @@
 use layers::levels::Levels;
 use layers::union::Union;
+use merge::opening::Opening;
 use merge::pair::Axis;
 use nodes::list::ListSource;
 use nodes::row::Row;
@@ -12,6 +13,7 @@ use std::test::Fail;
 use tapes::tape::Tape;
 use under::under::Under;
 
+// A row of document 7; each crate's tests have their own, since no crate lends its tests.
 fn row(start: u32, end: u32, level: u8) -> Row {
     Row {
         document: 7,
@@ -24,19 +26,24 @@ fn row(start: u32, end: u32, level: u8) -> Row {
 // What a source gives next: 0 and a node's start; 255 at its end; a fault's number and place.
 fn told<S: NodeSource>(source: &mut S) -> (u8, u32) {
     match source.take() {
-        Ok(taken) => match taken {
-            Some(node) => (0, node.row().start),
-            None => (255, 0),
-        },
+        Ok(Some(node)) => (0, Row::from(node).start),
+        Ok(None) => (255, 0),
         Err(fault) => (fault.refusal.number(), fault.place),
     }
 }
 
 fn tells<S: NodeSource>(rt: &impl Abort, source: &mut S, expected: &[(u8, u32)]) {
     for next in expected {
-        let got = told(source);
-        assert_eq!(rt; got.0, next.0);
-        assert_eq!(rt; got.1, next.1);
+        assert_eq!(rt; told(source), *next);
+    }
+}
+
+fn over<C, D>(containers: C, contained: D, axis: Axis, name: u16) -> Opening<C, D> {
+    Opening {
+        containers,
+        contained,
+        axis,
+        name,
     }
 }
 
@@ -48,8 +55,9 @@ fn layers_pile_up(rt: HostRuntime) {
     let upper = Levels::new(ListSource::new(&bodies, 1), 2, 2);
     let lower = Levels::new(ListSource::new(&bodies, 2), 3, 64);
     let both = Union::new(upper, lower, 3);
-    let inside = Under::new(ListSource::new(&part, 4), both, Axis::Descendant, 5);
-    let mut deep = Under::new(inside, ListSource::new(&faces, 6), Axis::Child, 7);
+    let inside = Under::new(over(ListSource::new(&part, 4), both, Axis::Descendant, 5));
+    let faces = ListSource::new(&faces, 6);
+    let mut deep = Under::new(over(inside, faces, Axis::Child, 7));
     tells(&rt, &mut deep, &[(0, 19), (0, 33), (255, 0), (255, 0)]);
 }
 
@@ -60,26 +68,20 @@ fn a_run_goes_over_a_pile(rt: HostRuntime) -> Result<(), Fail> {
     let faces = [row(19, 19, 3), row(33, 33, 4), row(42, 42, 2)];
     let upper = Levels::new(ListSource::new(&bodies, 1), 2, 2);
     let both = Union::new(upper, ListSource::new(&bodies, 2), 3);
-    let inside = Under::new(ListSource::new(&part, 4), both, Axis::Descendant, 5);
-    let mut run = Run::open(inside, ListSource::new(&faces, 6), Axis::Child, 7);
-    for expected in [(12, 19), (26, 33)] {
+    let inside = Under::new(over(ListSource::new(&part, 4), both, Axis::Descendant, 5));
+    let mut run = Run::open(over(inside, ListSource::new(&faces, 6), Axis::Child, 7));
+    for (container, contained) in [(12, 19), (26, 33)] {
         match run.next() {
-            Ok(handed) => match handed {
-                Some(pair) => {
-                    assert_eq!(rt; pair.container.row().start, expected.0);
-                    assert_eq!(rt; pair.contained.row().start, expected.1);
-                }
-                None => return Err(Fail::new("a pair is left")),
-            },
-            Err(_) => return Err(Fail::new("nothing is wrong in the pile")),
+            Ok(Some(pair)) => {
+                assert_eq!(rt; Row::from(pair.container).start, container);
+                assert_eq!(rt; Row::from(pair.contained).start, contained);
+            }
+            _ => return Err(Fail::new("a pair is left, and nothing is wrong in the pile")),
         }
     }
     match run.next() {
-        Ok(handed) => {
-            assert!(rt; handed.is_none());
-            Ok(())
-        },
-        Err(_) => Err(Fail::new("the run ends")),
+        Ok(None) => Ok(()),
+        _ => Err(Fail::new("the run ends")),
     }
 }
 
@@ -100,17 +102,15 @@ fn the_run_ends_the_layer(rt: HostRuntime) {
             [(0, 33), (255, 0), (255, 0)],
         ),
     ];
-    for case in cases {
+    for (below, expected) in cases {
         let above = ListSource::new(&bodies, 1);
-        let mut under = Under::new(above, ListSource::new(&case.0, 2), Axis::Descendant, 3);
-        tells(&rt, &mut under, &case.1);
+        let below = ListSource::new(&below, 2);
+        let mut under = Under::new(over(above, below, Axis::Descendant, 3));
+        tells(&rt, &mut under, &expected);
     }
-    let mut first = Under::first_step(
-        ListSource::new(&bodies, 1),
-        ListSource::new(&bodies, 2),
-        Axis::Child,
-        3,
-    );
+    let above = ListSource::new(&bodies, 1);
+    let below = ListSource::new(&bodies, 2);
+    let mut first = Under::first_step(over(above, below, Axis::Child, 3));
     tells(&rt, &mut first, &[(255, 0)]);
 }
 
@@ -126,38 +126,26 @@ const QUERY: [u8; 9] = [0x21, 0, 1, 0x22, 0, 2, 0x21, 0, 3];
 fn asked(tape: &[u8], query: &[u8], answer: &mut [Row], spare: &mut [Row]) -> (u8, u32, usize) {
     match path(&Tape::new(tape), query, answer, spare) {
         Ok(count) => (0, 0, count),
-        Err(fault) => match fault {
-            PathFault::Own { refusal, place } => (refusal.number(), 0, place as usize),
-            PathFault::Step { step, fault } => (fault.refusal.number(), step, fault.place as usize),
-        },
+        Err(PathFault::Own { refusal, place }) => (refusal.number(), 0, place as usize),
+        Err(PathFault::Step { step, fault }) => (
+            fault.refusal.number(),
+            step,
+            fault.place as usize,
+        ),
     }
-}
-
-fn answers(rt: &impl Abort, got: (u8, u32, usize), expected: (u8, u32, usize)) {
-    assert_eq!(rt; got.0, expected.0);
-    assert_eq!(rt; got.1, expected.1);
-    assert_eq!(rt; got.2, expected.2);
 }
 
 #[test]
 fn a_path_over_a_tape(rt: HostRuntime) {
     let mut answer = [row(1, 1, 1); 3];
     let mut spare = [row(1, 1, 1); 2];
-    answers(
-        &rt,
-        asked(&TAPE, &QUERY, &mut answer, &mut spare),
-        (0, 0, 2),
-    );
+    assert_eq!(rt; asked(&TAPE, &QUERY, &mut answer, &mut spare), (0, 0, 2));
     assert_eq!(rt; answer[0], row(19, 19, 3));
     assert_eq!(rt; answer[1], row(33, 33, 4));
     assert_eq!(rt; answer[2], Row::BLANK);
     assert_eq!(rt; spare[1], Row::BLANK);
     let mut short = [row(1, 1, 1); 1];
-    answers(
-        &rt,
-        asked(&TAPE, &QUERY, &mut answer, &mut short),
-        (19, 0, 2),
-    );
+    assert_eq!(rt; asked(&TAPE, &QUERY, &mut answer, &mut short), (19, 0, 2));
     assert_eq!(rt; answer[0], Row::BLANK);
     assert_eq!(rt; short[0], Row::BLANK);
 }
@@ -170,23 +158,18 @@ fn the_earlier_turn_decides(rt: HostRuntime) {
     let mut answer = [row(1, 1, 1); 1];
     let mut spare = [row(1, 1, 1); 1];
     let mut none = [row(1, 1, 1); 0];
-    answers(
-        &rt,
+    assert_eq!(rt;
         asked(&damaged, &QUERY, &mut answer, &mut spare),
-        (8, 1, 49),
+        (8, 1, 49)
     );
-    answers(
-        &rt,
-        asked(&damaged, &QUERY, &mut answer, &mut none),
-        (19, 0, 1),
-    );
+    assert_eq!(rt; asked(&damaged, &QUERY, &mut answer, &mut none), (19, 0, 1));
     assert_eq!(rt; answer[0], Row::BLANK);
 }
 
 fn refused(rt: &impl Abort, query: &[u8], expected: (u8, u32, usize)) {
     let mut answer = [row(1, 1, 1); 1];
     let mut spare = [row(1, 1, 1); 1];
-    answers(rt, asked(&TAPE, query, &mut answer, &mut spare), expected);
+    assert_eq!(rt; asked(&TAPE, query, &mut answer, &mut spare), expected);
     assert_eq!(rt; answer[0], Row::BLANK);
     assert_eq!(rt; spare[0], Row::BLANK);
 }

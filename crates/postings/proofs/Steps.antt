@@ -1,17 +1,17 @@
-use Rattle.std.proofs.Common.{◌≡◌, ℕ, zero, suc, ◌+◌, ◌<◌, ◌≤◌, Bool, true, false, cond, eqb, List, [], ◌∷◌, map, length, drop, Some, None, Ok, Err, filter, Option, Result, sym, refl, ap, ◌∙◌, le_refl, add-zero, arith, length-drop}
-use Rattle.std.proofs.lemmas.List.{nil_from_length}
+use Rattle.std.proofs.Common.{◌≡◌, ℕ, zero, suc, ◌+◌, ◌<◌, ◌≤◌, true, false, List, [], ◌∷◌, length, drop, Some, None, Ok, Err, Option, Result, is_some, sym, refl, ap, ◌∙◌, le_refl, add-zero, arith, length-drop}
+use Rattle.std.specs.Borrow.{Bor}
 use Rattle.std.proofs.lemmas.Slice.{between_to_end}
 use Rattle.std.proofs.lemmas.Bool.{lt-ltb, le-ltb, cond-true, cond-false}
 use Rattle.nodes.specs.Limits.{max_bytes}
 use Rattle.nodes.specs.declared.node.Node.{Node}
+use Rattle.nodes.specs.declared.tagged.Tagged.{Tagged}
 use Rattle.nodes.specs.declared.refusal.Refusal.{Refusal}
 use Rattle.nodes.specs.declared.refusal.Refusal.TheVariants.{ShortRecord}
 use Rattle.nodes.specs.declared.refusal.Fault.{Fault}
 use Rattle.nodes.specs.Node.{node_of}
 use Rattle.nodes.specs.Source.{answer, Taken}
-use Rattle.postings.specs.declared.record.Record.{Record}
 use Rattle.postings.specs.declared.source.PostingSource.{PostingSource}
-use Rattle.postings.specs.Records.{record_bytes, Cut, Posting, of_tag, under_tag, posting_in}
+use Rattle.postings.specs.Records.{record_bytes, Cut, of_tag, under_tag, posting_in}
 use Rattle.postings.specs.Reading.{Reading, stopped, read_one, read_from, read_rest, nodes_of, ending_of}
 use Rattle.nodes.specs.Whole.{Stop, named}
 use Rattle.postings.specs.Source.{left, posting_nodes, posting_ending}
@@ -32,10 +32,7 @@ read_on place (b ∷ bs) h =
 pub in_bounds : (place : ℕ) (bs : List ℕ) → place + length bs ≤ max_bytes → read_rest place bs ≡ read_from 0 place bs
 in_bounds place bs h = cond-false _ _ _ (le-ltb max_bytes (place + length bs) h)
 
--- nothing is left, or too little for a record
-pub at_end_lem : (s : PostingSource) → s.place + length s.bytes.now ≤ max_bytes → length s.bytes.now ≤ 0 → left s ≡ stopped None
-at_end_lem s fits h = in_bounds s.place s.bytes.now fits ∙ ap (read_from 0 s.place) (nil_from_length s.bytes.now (omega arith))
-
+-- too little is left for a record
 pub at_short : (s : PostingSource) → s.place + length s.bytes.now ≤ max_bytes → 0 < length s.bytes.now → length s.bytes.now < record_bytes →
     left s ≡ stopped (Some (record { refusal = ShortRecord; place = s.place }))
 at_short s fits h k =
@@ -48,53 +45,42 @@ abbrev pub with_node : Option Node → List Node → List Node
 with_node None ns = ns
 with_node (Some n) ns = n ∷ ns
 
-by_test : (b : Bool) (n : Node) (p : Posting) (ps : List Posting) (o : Option Node) → p.node ≡ n → Ok o ≡ cond {A = Result (Option Node) Refusal} b (Ok (Some n)) (Ok None) →
-    map (λ (p : Posting). p.node) (cond b (p ∷ ps) ps) ≡ with_node o (map (λ (p : Posting). p.node) ps)
-by_test true n p ps o q e = let z : o ≡ Some n = cc in rw (z, q)
-by_test false n p ps o q e = let z : o ≡ None = cc in rw z
-
 -- what a right record adds to a tag's nodes
 one_more : (place wanted tag : ℕ) (c : Result Node Refusal) (r : Reading) (o : Option Node) → Ok o ≡ of_tag wanted tag c →
     (nodes_of wanted (read_one place (under_tag tag c) r) ≡ with_node o (nodes_of wanted r)) × ((read_one place (under_tag tag c) r).stop ≡ r.stop)
-one_more place wanted tag (Ok n) r o e = (by_test (eqb tag wanted) n (record { tag = tag; node = n }) (filter (λ (p : Posting). eqb p.tag wanted) r.postings) o refl e, refl)
-one_more place wanted tag (Err f) r o e = let z : ◌≡◌ {A = ℕ} 0 1 = cc in absurd (omega arith)
-
-by_wrong : (b : Bool) (n : Node) (f : Refusal) → Err f ≡ cond {A = Result (Option Node) Refusal} b (Ok (Some n)) (Ok None) → ⊥
-by_wrong true n f e = let z : ◌≡◌ {A = ℕ} 0 1 = cc in omega arith
-by_wrong false n f e = let z : ◌≡◌ {A = ℕ} 0 1 = cc in omega arith
+one_more place wanted tag c r o e = (grind arith, grind arith)
 
 no_more : (place wanted tag : ℕ) (c : Result Node Refusal) (r : Reading) (f : Refusal) → Err f ≡ of_tag wanted tag c → read_one place (under_tag tag c) r ≡ stopped (Some (record { refusal = f; place = place }))
-no_more place wanted tag (Ok n) r f e = absurd (by_wrong (eqb tag wanted) n f e)
-no_more place wanted tag (Err g) r f e = let z : f ≡ g = cc in rw z
+no_more place wanted tag c r f e = grind arith
 
 -- the source's next record is whole
-module _ (s : PostingSource) (r : Record) (fits : s.place + length s.bytes.now ≤ max_bytes) (cut : Cut s.bytes.now (Some r)) where
-  behind : r.rest.now ≡ drop record_bytes s.bytes.now
+module _ (s : PostingSource) (x : Tagged) (rest : Bor (List ℕ)) (fits : s.place + length s.bytes.now ≤ max_bytes) (cut : Cut s.bytes.now (Some (x, rest))) where
+  behind : rest.now ≡ drop record_bytes s.bytes.now
   behind = cut.3 ∙ between_to_end s.bytes.now record_bytes (length s.bytes.now) (le_refl _)
 
-  pub fits_on : (s.place + record_bytes) + length r.rest.now ≤ max_bytes
-  fits_on = let k = cut.0 in rw behind (simp length-drop (omega arith))
+  pub fits_on : (s.place + record_bytes) + length rest.now ≤ max_bytes
+  fits_on = grind (arith, behind, length-drop)
 
-  in_front_lem : posting_in s.bytes.now ≡ under_tag r.tag (node_of r.row)
+  in_front_lem : posting_in s.bytes.now ≡ under_tag x.tag (node_of x.row)
   in_front_lem = cond-false _ _ _ (le-ltb (length s.bytes.now) record_bytes cut.0) ∙ rw (cut.1, cut.2)
 
-  next : left s ≡ read_one s.place (under_tag r.tag (node_of r.row)) (read_rest (s.place + record_bytes) r.rest.now)
+  next : left s ≡ read_one s.place (under_tag x.tag (node_of x.row)) (read_rest (s.place + record_bytes) rest.now)
   next =
       let k = cut.0 in
       in_bounds s.place s.bytes.now fits
       ∙ read_on s.place s.bytes.now (omega arith)
       ∙ ap (λ p. read_one s.place p (read_from 0 (s.place + record_bytes) (drop record_bytes s.bytes.now))) in_front_lem
-      ∙ ap (λ bs. read_one s.place (under_tag r.tag (node_of r.row)) (read_from 0 (s.place + record_bytes) bs)) (sym behind)
-      ∙ ap (read_one s.place (under_tag r.tag (node_of r.row))) (sym (in_bounds (s.place + record_bytes) r.rest.now fits_on))
+      ∙ ap (λ bs. read_one s.place (under_tag x.tag (node_of x.row)) (read_from 0 (s.place + record_bytes) bs)) (sym behind)
+      ∙ ap (read_one s.place (under_tag x.tag (node_of x.row))) (sym (in_bounds (s.place + record_bytes) rest.now fits_on))
 
-  pub at_wrong : (f : Refusal) → Err f ≡ of_tag s.tag r.tag (node_of r.row) → left s ≡ stopped (Some (record { refusal = f; place = s.place }))
-  at_wrong f e = next ∙ no_more s.place s.tag r.tag (node_of r.row) (read_rest (s.place + record_bytes) r.rest.now) f e
+  pub at_wrong : (f : Refusal) → Err f ≡ of_tag s.tag x.tag (node_of x.row) → left s ≡ stopped (Some (record { refusal = f; place = s.place }))
+  at_wrong f e = next ∙ no_more s.place s.tag x.tag (node_of x.row) (read_rest (s.place + record_bytes) rest.now) f e
 
-  pub at_record : (o o' : Option Node) → Ok o ≡ of_tag s.tag r.tag (node_of r.row) → o ≡ o' →
-      (posting_nodes s ≡ with_node o' (nodes_of s.tag (read_rest (s.place + record_bytes) r.rest.now))) × (posting_ending s ≡ ending_of s.name (read_rest (s.place + record_bytes) r.rest.now))
-  at_record o o' e q =
-      let m = one_more s.place s.tag r.tag (node_of r.row) (read_rest (s.place + record_bytes) r.rest.now) o e in
-      (rw (← q) (ap (nodes_of s.tag) next ∙ m.0), ap (ending_of s.name) next ∙ ap (named s.name) m.1)
+  pub at_record : (o : Option Node) → Ok o ≡ of_tag s.tag x.tag (node_of x.row) →
+      (posting_nodes s ≡ with_node o (nodes_of s.tag (read_rest (s.place + record_bytes) rest.now))) × (posting_ending s ≡ ending_of s.name (read_rest (s.place + record_bytes) rest.now))
+  at_record o e =
+      let m = one_more s.place s.tag x.tag (node_of x.row) (read_rest (s.place + record_bytes) rest.now) o e in
+      (ap (nodes_of s.tag) next ∙ m.0, ap (ending_of s.name) next ∙ ap (named s.name) m.1)
 
 -- take, after a loop from the source s to t that left what it means
 module _ (s t : PostingSource) (same : posting_nodes t ≡ posting_nodes s) (alike : posting_ending t ≡ posting_ending s) where
@@ -104,5 +90,9 @@ module _ (s t : PostingSource) (same : posting_nodes t ≡ posting_nodes s) (ali
       let b = ap (ending_of t.name) e in
       record { answers = rw (← same, ← alike, a, b); leaves = rw (← same, a); keeps = alike }
 
-  pub gives : (n : Node) (ns : List Node) (e : Option Fault) → posting_nodes t ≡ n ∷ ns → posting_ending t ≡ e → Taken (posting_nodes s) (posting_ending s) (Ok (Some n)) ns e
-  gives n ns e a b = record { answers = rw (← same, a); leaves = rw (← same, a); keeps = sym b ∙ alike }
+  pub gives : (o : Option Node) (ns : List Node) (e : Option Fault) → true ≡ is_some o → posting_nodes t ≡ with_node o ns → posting_ending t ≡ e → Taken (posting_nodes s) (posting_ending s) (Ok o) ns e
+  gives o ns e h a b = grind arith
+
+  -- what is left behind a record without a node of the tag means the same
+  pub passed : (o : Option Node) (ns : List Node) (e : Option Fault) → false ≡ is_some o → posting_nodes t ≡ with_node o ns → posting_ending t ≡ e → (ns ≡ posting_nodes s) × (e ≡ posting_ending s)
+  passed o ns e h a b = grind arith

@@ -1,12 +1,13 @@
 use Rattle.std.specs.Prelude.{◌≡◌, ℕ, ◌<◌, ◌≤◌, cond, List, length, Some, None, Ok, Err, Option, Result, ◌==◌, nat_lt, slice_index}
+use Rattle.std.specs.Borrow.{Bor}
 use Rattle.std.specs.List.{between}
 use Rattle.nodes.specs.declared.row.Row.{Row}
+use Rattle.nodes.specs.declared.tagged.Tagged.{Tagged}
 use Rattle.nodes.specs.declared.node.Node.{Node}
 use Rattle.nodes.specs.declared.refusal.Refusal.{Refusal}
 use Rattle.nodes.specs.declared.refusal.Refusal.TheVariants.{ShortRecord}
 use Rattle.nodes.specs.Bytes.{two_at, four_at}
 use Rattle.nodes.specs.Node.{node_of}
-use Rattle.postings.specs.declared.record.Record.{Record}
 
 -- how many bytes a record has
 abbrev pub record_bytes : ℕ
@@ -20,9 +21,9 @@ abbrev pub row_in : List ℕ → Row
 row_in bs = record { document = four_at bs 2; start = four_at bs 6; end = four_at bs 10; level = slice_index bs 14 }
 
 -- the record at the front is taken off, or too few bytes remain for one
-abbrev pub Cut : List ℕ → Option Record → Type 0
+abbrev pub Cut : List ℕ → Option (Tagged × Bor (List ℕ)) → Type 0
 Cut bs None = length bs < record_bytes
-Cut bs (Some r) = (record_bytes ≤ length bs) × (r.tag ≡ tag_in bs) × (r.row ≡ row_in bs) × (r.rest.now ≡ between record_bytes (length bs) bs)
+Cut bs (Some r) = (record_bytes ≤ length bs) × (r.0.tag ≡ tag_in bs) × (r.0.row ≡ row_in bs) × (r.1.now ≡ between record_bytes (length bs) bs)
 
 -- a record's node where it has the wanted tag; what is wrong with its row, under any tag
 abbrev pub of_tag : (wanted tag : ℕ) → Result Node Refusal → Result (Option Node) Refusal

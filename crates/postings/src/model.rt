@@ -9,25 +9,19 @@ use crate::source::PostingSource;
 use nodes::model::Model as NodeModel;
 
 /// A posting list: for each tag, the nodes of its records.
-#[derive(Drop)]
+#[derive(Clone, Copy)]
 pub struct Postings<'a> {
     bytes: &'a [u8],
 }
 
 impl<'a> Postings<'a> {
-    /// The model over the bytes.
-    fn over(bytes: &'a [u8]) -> Postings<'a>
-        ensures { reading_of result ≡ reading bytes.now }
-    {
-        Postings { bytes }
-    }
-
     /// The model of the records in the bytes: all before the first wrong one.
+    #[tactic(auto, using(crate::proofs::Telling::told))]
     pub fn new(bytes: &'a [u8]) -> Postings<'a>
         ensures means { reading_of result ≡ reading bytes.now }
         ensures told { Told bytes.now (reading_of result) }
     {
-        Postings::over(bytes)
+        Postings { bytes }
     }
 }
 

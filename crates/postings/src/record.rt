@@ -7,20 +7,13 @@ ghost use Rattle.postings.specs.Records.{Cut, of_tag};
 use nodes::node::Node;
 use nodes::refusal::Refusal;
 use nodes::row::Row;
+use nodes::tagged::Tagged;
 
 /// How many bytes a record has.
 pub const RECORD_BYTES: u32 = 15;
 
-/// The record at the front of some bytes, and the bytes behind it.
-#[derive(Clone, Copy)]
-pub struct Record<'a> {
-    pub tag: u16,
-    pub row: Row,
-    pub rest: &'a [u8],
-}
-
-/// Takes the record at the front apart; none where fewer bytes remain than a record has.
-pub fn first_record<'a>(bytes: &'a [u8]) -> Option<Record<'a>>
+/// The record at the front, and the bytes behind it; none where fewer remain than a record has.
+pub fn first_record<'a>(bytes: &'a [u8]) -> Option<(Tagged, &'a [u8])>
     ensures { Cut bytes.now result }
 {
     match bytes {
@@ -49,24 +42,16 @@ pub fn first_record<'a>(bytes: &'a [u8]) -> Option<Record<'a>>
                 level: *level,
             };
             let tag = u16::from_be_bytes([*t1, *t0]);
-            Some(Record { tag, row, rest })
+            Some((Tagged { tag, row }, rest))
         }
         _ => None,
     }
 }
 
 /// The node of a record where it has the wanted tag; a wrong row is refused under any tag.
-pub fn node_of_tag(row: Row, tag: u16, wanted: u16) -> Result<Option<Node>, Refusal>
-    ensures { result ≡ of_tag wanted tag (node_of row) }
+pub fn node_of_tag(item: Tagged, wanted: u16) -> Result<Option<Node>, Refusal>
+    ensures { result ≡ of_tag wanted item.tag (node_of item.row) }
 {
-    match row.check() {
-        Ok(node) => {
-            if tag == wanted {
-                Ok(Some(node))
-            } else {
-                Ok(None)
-            }
-        }
-        Err(refusal) => Err(refusal),
-    }
+    let node = Node::try_from(item.row)?;
+    Ok((item.tag == wanted).then_some(node))
 }

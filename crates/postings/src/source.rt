@@ -2,7 +2,6 @@
 
 ghost use Rattle.std.specs.Prelude.{◌≡◌, ◌+◌, length, nat_lt};
 ghost use Rattle.nodes.specs.Limits.{max_bytes};
-ghost use Rattle.nodes.specs.Whole.{fault_by};
 ghost use Rattle.postings.specs.Reading.{reading, nodes_of, ending_of};
 ghost use Rattle.postings.specs.Source.{posting_nodes, posting_ending};
 
@@ -38,23 +37,11 @@ impl<'a> PostingSource<'a> {
     }
 
     /// Whether the whole list is longer than a posting list may be.
+    // Each take asks again: to keep the answer would be one more field, and one more fact of it.
     fn is_too_long(&self) -> bool
         ensures { result ≡ nat_lt max_bytes (self.now.place + length self.now.bytes.now) }
     {
-        let left = self.bytes.len();
-        left > MAX_BYTES || self.place as usize > MAX_BYTES - left
-    }
-
-    /// The fault of a refusal, under the source's name.
-    fn refuse(&self, refusal: Refusal, place: u32) -> Fault
-        ensures { result ≡ fault_by refusal self.now.name place }
-    {
-        let name = self.name;
-        Fault {
-            refusal,
-            name,
-            place,
-        }
+        self.place as usize + self.bytes.len() > MAX_BYTES
     }
 }
 
@@ -65,23 +52,25 @@ impl<'a> NodeSource for PostingSource<'a> {
 
     fn take(&mut self) -> Result<Option<Node>, Fault> {
         if self.is_too_long() {
-            return Err(self.refuse(Refusal::TooLong, 0));
+            return Err(Refusal::TooLong.at(self.name, 0));
         }
-        while self.bytes.len() > 0 {
-            let Some(record) = first_record(self.bytes) else {
-                return Err(self.refuse(Refusal::ShortRecord, self.place));
-            };
-            match node_of_tag(record.row, record.tag, self.tag) {
+        while let Some((item, rest)) = first_record(self.bytes) {
+            // Not map_err: behind a closure's call the check leaves the loop's goals open.
+            match node_of_tag(item, self.tag) {
                 Ok(found) => {
-                    self.bytes = record.rest;
+                    self.bytes = rest;
                     self.place += RECORD_BYTES;
-                    if let Some(node) = found {
-                        return Ok(Some(node));
+                    if found.is_some() {
+                        return Ok(found);
                     }
                 }
-                Err(refusal) => return Err(self.refuse(refusal, self.place)),
+                Err(refusal) => return Err(refusal.at(self.name, self.place)),
             }
         }
-        Ok(None)
+        if self.bytes.is_empty() {
+            Ok(None)
+        } else {
+            Err(Refusal::ShortRecord.at(self.name, self.place))
+        }
     }
 }

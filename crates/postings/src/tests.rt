@@ -14,23 +14,16 @@ fn ending(bytes: &[u8], tag: u16, nodes: u8) -> (u8, u32) {
     let mut source = Postings::new(bytes).source(tag, 9);
     for _ in 0..nodes {
         match source.take() {
-            Ok(taken) => {
-                if taken.is_none() {
-                    return (99, 0);
-                }
-            }
+            Ok(Some(_)) => {}
+            Ok(None) => return (99, 0),
             Err(_) => return (99, 1),
         }
     }
     match source.take() {
-        Ok(taken) => { if taken.is_none() { (0, 0) } else { (99, 2) } }
-        Err(fault) => {
-            if fault.name == 9 {
-                (fault.refusal.number(), fault.place)
-            } else {
-                (99, 3)
-            }
-        }
+        Ok(None) => (0, 0),
+        Ok(Some(_)) => (99, 2),
+        Err(fault) if fault.name == 9 => (fault.refusal.number(), fault.place),
+        Err(_) => (99, 3),
     }
 }
 
@@ -71,10 +64,8 @@ fn a_damaged_list_ends_at_its_first_wrong_record(rt: HostRuntime) {
         (45, 16, 2, 3, 0, 0),
         (45, 1, 3, 1, 0, 0),
     ];
-    for case in cases {
-        let got = damaged(case.0, case.1, case.2, case.3);
-        assert_eq!(rt; got.0, case.4);
-        assert_eq!(rt; got.1, case.5);
+    for (length, at, byte, nodes, number, place) in cases {
+        assert_eq!(rt; damaged(length, at, byte, nodes), (number, place));
     }
 }
 
@@ -83,11 +74,8 @@ fn a_record_lies_most_significant_byte_first(rt: HostRuntime) {
     let bytes = [1, 2, 16, 32, 48, 64, 17, 33, 49, 65, 18, 34, 50, 66, 64];
     let mut source = Postings::new(&bytes).source(258, 9);
     let row = match source.take() {
-        Ok(taken) => match taken {
-            Some(node) => node.row(),
-            None => Row::BLANK,
-        },
-        Err(_) => Row::BLANK,
+        Ok(Some(node)) => Row::from(node),
+        _ => Row::BLANK,
     };
     assert_eq!(rt;
         row,

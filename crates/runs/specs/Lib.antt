@@ -4,3 +4,4 @@ pub mod Laws
 pub mod Holding
 pub mod Replay
 pub mod Hinge
+pub mod Texts

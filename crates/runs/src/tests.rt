@@ -1,12 +1,14 @@
 use crate::call::{Answer, Call, Tally};
 use crate::replay::replay;
 use crate::run::Run;
-use merge::pair::Axis;
+use merge::opening::Opening;
+use merge::pair::{Axis, Pair};
 use nodes::list::ListSource;
 use nodes::place::Place;
+use nodes::refusal::{Fault, Refusal};
 use nodes::row::Row;
-use std::test::Fail;
 
+// A row of document 7; each crate's tests have their own, since no crate lends its tests.
 fn row(start: u32, end: u32, level: u8) -> Row {
     Row {
         document: 7,
@@ -16,33 +18,10 @@ fn row(start: u32, end: u32, level: u8) -> Row {
     }
 }
 
-// An answer as numbers: which it is, and what it tells.
-fn shown(answer: Option<Answer>) -> (u8, u32, u32, u32, u32) {
-    let Some(answer) = answer else {
-        return (0, 0, 0, 0, 0);
-    };
-    match answer {
-        Answer::Handed(pair) => {
-            let container = pair.container.row();
-            let contained = pair.contained.row();
-            (
-                1,
-                container.start,
-                container.end,
-                contained.start,
-                contained.end,
-            )
-        }
-        Answer::AtEnd => (2, 0, 0, 0, 0),
-        Answer::Failed(fault) => (
-            3,
-            fault.refusal.number() as u32,
-            fault.name as u32,
-            fault.place,
-            0,
-        ),
-        Answer::Passed(number) => (4, number, 0, 0, 0),
-        Answer::Told(tally) => (5, tally.handed, tally.passed, tally.waiting, tally.turns),
+fn pair(container: Row, contained: Row) -> Pair {
+    Pair {
+        container: container.node_or_blank(),
+        contained: contained.node_or_blank(),
     }
 }
 
@@ -67,26 +46,30 @@ fn the_worked_example_answers_its_calls(rt: HostRuntime) {
         Call::Tell,
     ];
     let mut answers = [None; 7];
-    replay(
-        ListSource::new(&above, 1),
-        ListSource::new(&below, 2),
-        Axis::Descendant,
-        3,
-        &calls,
-        &mut answers,
-    );
+    let opening = Opening {
+        containers: ListSource::new(&above, 1),
+        contained: ListSource::new(&below, 2),
+        axis: Axis::Descendant,
+        name: 3,
+    };
+    replay(opening, &calls, &mut answers);
     let expected = [
-        (1, 12, 41, 19, 19),
-        (4, 0, 0, 0, 0),
-        (1, 12, 41, 33, 33),
-        (4, 1, 0, 0, 0),
-        (2, 0, 0, 0, 0),
-        (5, 2, 1, 0, 5),
-        (0, 0, 0, 0, 0),
+        Answer::Next(Ok(Some(pair(row(12, 41, 2), row(19, 19, 3))))),
+        Answer::Skip(Ok(0)),
+        Answer::Next(Ok(Some(pair(row(12, 41, 2), row(33, 33, 4))))),
+        Answer::Skip(Ok(1)),
+        Answer::Next(Ok(None)),
+        Answer::Tell(Tally {
+            handed: 2,
+            passed: 1,
+            waiting: 0,
+            turns: 5,
+        }),
     ];
-    for i in 0..7 {
-        assert!(rt; shown(answers[i]) == expected[i]);
+    for (answer, expected) in answers.iter().zip(&expected) {
+        assert!(rt; *answer == Some(*expected));
     }
+    assert!(rt; answers[6] == None);
 }
 
 #[test]
@@ -110,41 +93,47 @@ fn a_refused_turn_stops_a_skip_only_before_its_place(rt: HostRuntime) {
         Call::Tell,
     ];
     let mut answers = [None; 6];
-    replay(
-        ListSource::new(&above, 1),
-        ListSource::new(&below, 2),
-        Axis::Child,
-        3,
-        &calls,
-        &mut answers,
-    );
+    let opening = Opening {
+        containers: ListSource::new(&above, 1),
+        contained: ListSource::new(&below, 2),
+        axis: Axis::Child,
+        name: 3,
+    };
+    replay(opening, &calls, &mut answers);
+    let fault = Fault {
+        refusal: Refusal::Overlap,
+        name: 3,
+        place: 3,
+    };
     let expected = [
-        (4, 1, 0, 0, 0),
-        (4, 0, 0, 0, 0),
-        (3, 15, 3, 3, 0),
-        (3, 15, 3, 3, 0),
-        (3, 15, 3, 3, 0),
-        (5, 0, 1, 0, 2),
+        Answer::Skip(Ok(1)),
+        Answer::Skip(Ok(0)),
+        Answer::Next(Err(fault)),
+        Answer::Skip(Err(fault)),
+        Answer::Next(Err(fault)),
+        Answer::Tell(Tally {
+            handed: 0,
+            passed: 1,
+            waiting: 0,
+            turns: 2,
+        }),
     ];
-    for i in 0..6 {
-        assert!(rt; shown(answers[i]) == expected[i]);
+    for (answer, expected) in answers.iter().zip(&expected) {
+        assert!(rt; *answer == Some(*expected));
     }
 }
 
 #[test]
-fn a_fault_in_hand_stops_at_once_but_after_what_waits(rt: HostRuntime) -> Result<(), Fail> {
+fn a_fault_in_hand_stops_at_once_but_after_what_waits(rt: HostRuntime) {
     let above = [row(12, 41, 2), row(26, 40, 3)];
     let below = [row(33, 33, 4), row(50, 40, 4)];
-    let mut run = Run::open(
-        ListSource::new(&above, 1),
-        ListSource::new(&below, 2),
-        Axis::Descendant,
-        3,
-    );
-    match run.next() {
-        Ok(_) => {}
-        Err(_) => return Err(Fail::new("two pairs come first")),
-    }
+    let mut run = Run::open(Opening {
+        containers: ListSource::new(&above, 1),
+        contained: ListSource::new(&below, 2),
+        axis: Axis::Descendant,
+        name: 3,
+    });
+    assert!(rt; run.next().is_ok());
     assert!(rt;
         run.tell()
             == (Tally {
@@ -154,16 +143,15 @@ fn a_fault_in_hand_stops_at_once_but_after_what_waits(rt: HostRuntime) -> Result
                 turns: 3,
             })
     );
-    match run.skip(7, 33) {
-        Ok(passed) => assert!(rt; passed == 0),
-        Err(_) => return Err(Fail::new("a pair waits that is not before the place")),
-    }
-    match run.skip(4294967295, 0) {
-        Ok(_) => return Err(Fail::new("the second row is wrong")),
-        Err(fault) => assert!(rt;
-            fault.refusal.number() == 11 && fault.name == 2 && fault.place == 1
-        ),
-    }
+    assert!(rt; run.skip(7, 33) == Ok(0));
+    assert!(rt;
+        run.skip(4294967295, 0)
+            == Err(Fault {
+                refusal: Refusal::StartPassesEnd,
+                name: 2,
+                place: 1,
+            })
+    );
     assert!(rt;
         run.tell()
             == (Tally {
@@ -173,5 +161,4 @@ fn a_fault_in_hand_stops_at_once_but_after_what_waits(rt: HostRuntime) -> Result
                 turns: 3,
             })
     );
-    Ok(())
 }

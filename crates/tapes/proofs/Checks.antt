@@ -12,7 +12,7 @@ use Rattle.tapes.specs.Reading.{start, tape_reads}
 use Rattle.tapes.specs.Rows.{IsNode}
 use Rattle.tapes.specs.Source.{tape_end}
 use Rattle.tapes.specs.Forest.{Forest, encode, tag_rows, forest_rows, Fine}
-use Rattle.tapes.specs.Check.{TapeOf, Checks, RunsOut}
+use Rattle.tapes.specs.Check.{TapeOf, Checks}
 use Rattle.tapes.proofs.Onward.{short_reads, long_reads}
 use Rattle.tapes.proofs.Commands.{some_not}
 use Rattle.tapes.proofs.Forests.{forest_reads}
@@ -54,6 +54,11 @@ ended bs b h =
           let e = encodes bs b (sym (ap (λ (w : Whole). w.stop) (short_reads bs start l)) ∙ h) in
           (e.0, (record { documents = e.1.0; short = subst (λ (z : List ℕ). length z ≤ max_bytes) e.1.1 l }, e.1.1))
     ]
+
+-- how bytes whose ending is e were read through
+abbrev pub RunsOut : Option Fault → Result (Unit {0}) Fault → Type 0
+RunsOut e (Ok u) = e ≡ None
+RunsOut e (Err f) = e ≡ Some f
 
 -- what was found by reading to the end
 pub checks : (bs : List ℕ) (name : ℕ) (r : Result (Unit {0}) Fault) → ((i : ℕ) → get_or bs i 0 < 256) → RunsOut (tape_end bs name) r → Checks bs name r

@@ -52,12 +52,9 @@ pub cond_ways : (b : Bool) (x y : Result Command Refusal) (k : Command) → cond
 cond_ways true x y k h = inl (refl, h)
 cond_ways false x y k h = inr (refl, h)
 
-pub no_err : (w : Refusal) (k : Command) → ◌≡◌ {A = Result Command Refusal} (Err w) (Ok k) → ⊥
-no_err w k h = let z : ◌≡◌ {A = ℕ} 0 1 = cc in omega arith
-
 pub needed : (l : List ℕ) (j k : Command) → whole l j ≡ Ok k → (width j ≤ length l) × (j ≡ k)
 needed l j k h = elim (cond_ways (leb (width j) (length l)) (Ok j) (Err ShortCommand) k h)
-    [ inl p ↦ (leb-true (width j) (length l) p.0, cc) | inr p ↦ absurd (no_err ShortCommand k p.1) ]
+    [ inl p ↦ (leb-true (width j) (length l) p.0, cc) | inr p ↦ let e = p.1 in absurd cc ]
 
 -- small lists taken apart
 pub begins_as : (l : List ℕ) → ((i : ℕ) → get_or l i 0 < 256) → get_or l 0 0 ≡ 1 → 5 ≤ length l → CommandAt l (Begin (four_at l 1))
@@ -100,7 +97,7 @@ command_of l k s h =
     let k₃ : Result Command Refusal = cond (eqb b 3) (whole l Close) k₄ in
     let k₂ : Result Command Refusal = cond (eqb b 2) (whole l (Open (two_at l 1) (four_at l 3))) k₃ in
     elim (cond_ways (eqb (length l) 0) (Err ShortCommand) (by_byte b l) k h) [
-      | inl p ↦ absurd (no_err ShortCommand k p.1)
+      | inl p ↦ let e = p.1 in absurd cc
       | inr p ↦
           elim (cond_ways (eqb b 1) (whole l (Begin (four_at l 1))) k₂ k p.1) [
             | inl q ↦
@@ -128,7 +125,7 @@ command_of l k s h =
                                     | inl y ↦
                                         let v = one_as 5 l (eqb-true b 5 y.0) (omega arith) in
                                         subst (λ (j : Command). CommandAt l j) (needed l End k y.1).1 (record { rest = v.0; bytes = v.1; within = tt })
-                                    | inr y ↦ absurd (no_err UnknownCommand k y.1)
+                                    | inr y ↦ let e = y.1 in absurd cc
                                   ]
                             ]
                       ]
@@ -138,7 +135,7 @@ command_of l k s h =
 
 -- a reading that comes to the end was not refused here
 pub some_not : {A : Type 0} {x : A} → ◌≡◌ {A = Option A} (Some x) None → ⊥
-some_not e = let z : ◌≡◌ {A = ℕ} 0 1 = cc in omega arith
+some_not e = cc
 
 abbrev pub on_to : Reading → Command → Reading
 on_to s k = after s (done s k)

@@ -74,7 +74,7 @@ pub reads_end : (bs : List ℕ) (s : Reading) → length bs ≤ s.at → reads b
 unfolding reads
 reads_end bs s h = beyond (length bs - s.at) bs s h
 
--- the same of a tape that is not too long
+-- the same of a tape that is not too long, and of one that is
 pub short_reads : (bs : List ℕ) (s : Reading) → length bs ≤ max_bytes → reads_on bs s ≡ reads bs s
 unfolding reads_on
 short_reads bs s h = rw (le-leb (length bs) max_bytes h) refl
@@ -82,11 +82,3 @@ short_reads bs s h = rw (le-leb (length bs) max_bytes h) refl
 pub long_reads : (bs : List ℕ) (s : Reading) → max_bytes < length bs → reads_on bs s ≡ stopped TooLong 0
 unfolding reads_on
 long_reads bs s h = rw (lt-leb (length bs) max_bytes h) refl
-
-pub reads_on_end : (bs : List ℕ) (s : Reading) → length bs ≤ max_bytes → length bs ≤ s.at → reads_on bs s ≡ end_at s.stage (length bs)
-reads_on_end bs s h k = short_reads bs s h ∙ reads_end bs s k
-
-pub reads_on-step : (bs : List ℕ) (s : Reading) → length bs ≤ max_bytes → s.at < length bs → reads_on bs s ≡ onward s (step bs s) (reads_on bs)
-reads_on-step bs s h k =
-    short_reads bs s h ∙ reads-step bs s k
-    ∙ onward_same s (step bs s) (reads bs) (reads_on bs) (forward bs s) (λ t u. sym (short_reads bs t h))

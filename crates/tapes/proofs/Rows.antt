@@ -22,7 +22,7 @@ is_row d s e l hd hs h1 hl = row_as_node (row_at d s e l) (and_from _ _ (le-leb 
 -- a test that was passed
 pub passed : (b : Bool) (f : Refusal) (next : Option Refusal) → test b f next ≡ None → (b ≡ true) × (next ≡ None)
 passed true f next e = (refl, e)
-passed false f next e = absurd (let z : ◌≡◌ {A = ℕ} 0 1 = cc in omega arith)
+passed false f next e = absurd cc
 
 -- what a move keeps: the document stays in its range, and what is made is a node's row
 abbrev Fair : Move → Type 0

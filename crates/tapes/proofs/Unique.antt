@@ -2,35 +2,35 @@ use Rattle.std.proofs.Common.{◌≡◌, ℕ, ◌+◌, ◌*◌, ◌/◌, ◌%◌
 use Rattle.nodes.specs.Bytes.{two, four, four_at}
 use Rattle.tapes.specs.Forest.{Children, none, value, element, Forest, size, encode_in, encode_from, encode, FineIn, FineFrom, Fine}
 use Rattle.tapes.specs.Draft.{document}
-use Rattle.tapes.proofs.Bytes.{two_back, four_back}
+use Rattle.std.proofs.lemmas.Nat.{from_be_bytes-to_be_bytes_2, from_be_bytes-to_be_bytes_4}
 
 pub two_same : (t u : ℕ) (x y : List ℕ) → t < 65536 → u < 65536 → two t x ≡ two u y → (t ≡ u) × (x ≡ y)
 two_same t u x y a b h =
     let p : t / 256 % 256 ≡ u / 256 % 256 = ap (λ l. get_or l 0 0) h in
     let q : t % 256 ≡ u % 256 = ap (λ l. get_or l 1 0) h in
-    (sym (two_back t a) ∙ ap (λ z. z * 256 + t % 256) p ∙ ap (λ z. u / 256 % 256 * 256 + z) q ∙ two_back u b, ap (drop 2) h)
+    (sym (from_be_bytes-to_be_bytes_2 t a) ∙ ap (λ z. z * 256 + t % 256) p ∙ ap (λ z. u / 256 % 256 * 256 + z) q ∙ from_be_bytes-to_be_bytes_2 u b, ap (drop 2) h)
 
 pub four_same : (n m : ℕ) (x y : List ℕ) → n < 4294967296 → m < 4294967296 → four n x ≡ four m y → (n ≡ m) × (x ≡ y)
 four_same n m x y a b h = (
-  sym (four_back n a)
+  sym (from_be_bytes-to_be_bytes_4 n a)
       ∙ ap (λ l. four_at l 0) h
-      ∙ four_back m b,
+      ∙ from_be_bytes-to_be_bytes_4 m b,
   ap (drop 4) h,
 )
 
 pub forest_one : (f g : Children) (at l : ℕ) (r q : List ℕ) → FineIn l f → FineIn l g → encode_in at f (3 ∷ r) ≡ encode_in at g (3 ∷ q) → (f ≡ g) × (r ≡ q)
 forest_one none none at l r q a b h = (refl, ap (drop 1) h)
-forest_one none (value u m g) at l r q a b h = let z : ◌≡◌ {A = ℕ} 3 4 = ap (λ x. get_or x 0 0) h in absurd (omega arith)
-forest_one none (element u c g) at l r q a b h = let z : ◌≡◌ {A = ℕ} 3 2 = ap (λ x. get_or x 0 0) h in absurd (omega arith)
-forest_one (value t n f) none at l r q a b h = let z : ◌≡◌ {A = ℕ} 4 3 = ap (λ x. get_or x 0 0) h in absurd (omega arith)
+forest_one none (value u m g) at l r q a b h = absurd cc
+forest_one none (element u c g) at l r q a b h = absurd cc
+forest_one (value t n f) none at l r q a b h = absurd cc
 forest_one (value t n f) (value u m g) at l r q a b h =
     let e = two_same t u (four n (encode_in (at + 7) f (3 ∷ r))) (four m (encode_in (at + 7) g (3 ∷ q))) a.1 b.1 (ap (drop 1) h) in
     let v = four_same n m (encode_in (at + 7) f (3 ∷ r)) (encode_in (at + 7) g (3 ∷ q)) a.2 b.2 e.1 in
     let i = forest_one f g (at + 7) l r q a.3 b.3 v.1 in
     (ap (λ z. value z n f) e.0 ∙ ap (λ z. value u z f) v.0 ∙ ap (value u m) i.0, i.1)
-forest_one (value t n f) (element u c g) at l r q a b h = let z : ◌≡◌ {A = ℕ} 4 2 = ap (λ x. get_or x 0 0) h in absurd (omega arith)
-forest_one (element t c f) none at l r q a b h = let z : ◌≡◌ {A = ℕ} 2 3 = ap (λ x. get_or x 0 0) h in absurd (omega arith)
-forest_one (element t c f) (value u m g) at l r q a b h = let z : ◌≡◌ {A = ℕ} 2 4 = ap (λ x. get_or x 0 0) h in absurd (omega arith)
+forest_one (value t n f) (element u c g) at l r q a b h = absurd cc
+forest_one (element t c f) none at l r q a b h = absurd cc
+forest_one (element t c f) (value u m g) at l r q a b h = absurd cc
 forest_one (element t c f) (element u k g) at l r q a b h =
     let x : List ℕ = encode_in (at + 8 + size c) f (3 ∷ r) in
     let y : List ℕ = encode_in (at + 8 + size k) g (3 ∷ q) in
@@ -41,8 +41,8 @@ forest_one (element t c f) (element u k g) at l r q a b h =
 
 pub docs_one : (ds es : Forest) (at l m : ℕ) → FineFrom l ds → FineFrom m es → encode_from at ds ≡ encode_from at es → ds ≡ es
 docs_one [] [] at l m a b h = refl
-docs_one [] (y ∷ es) at l m a b h = let z : ◌≡◌ {A = ℕ} 0 1 = ap (λ x. get_or x 0 0) h in absurd (omega arith)
-docs_one (x ∷ ds) [] at l m a b h = let z : ◌≡◌ {A = ℕ} 1 0 = ap (λ x. get_or x 0 0) h in absurd (omega arith)
+docs_one [] (y ∷ es) at l m a b h = absurd cc
+docs_one (x ∷ ds) [] at l m a b h = absurd cc
 docs_one (x ∷ ds) (y ∷ es) at l m a b h =
     let c : Children = x.children in
     let k : Children = y.children in

@@ -1,4 +1,4 @@
-use Rattle.std.specs.Prelude.{◌≡◌, ℕ, List, map, Some, None, Ok, Err, Option, Result, ◌≢◌}
+use Rattle.std.specs.Prelude.{◌≡◌, ℕ, List, map, Some, None, Ok, Err, Result, ◌≢◌}
 use Rattle.nodes.specs.declared.refusal.Fault.{Fault}
 use Rattle.nodes.specs.Node.{row_of}
 use Rattle.tapes.specs.Forest.{Forest, encode, tag_rows, forest_rows, forest_nodes, Fine}
@@ -22,8 +22,3 @@ OnlyOf bs f = (g : Forest) → Fine g → bs ≡ encode g → g ≡ f
 abbrev pub Checks : List ℕ → (name : ℕ) → Result (Unit {0}) Fault → Type 0
 Checks bs name (Ok u) = (f : Forest) × (TapeOf bs f × OnlyOf bs f)
 Checks bs name (Err e) = (tape_end bs name ≡ Some e) × ((f : Forest) → Fine f → bs ≢ encode f)
-
--- how bytes whose ending is e were read through
-abbrev pub RunsOut : Option Fault → Result (Unit {0}) Fault → Type 0
-RunsOut e (Ok u) = e ≡ None
-RunsOut e (Err f) = e ≡ Some f

@@ -1,7 +1,7 @@
 use Rattle.std.specs.Prelude.{◌≡◌, ℕ, List, [], ◌∷◌, Some, None}
 use Rattle.nodes.specs.declared.refusal.Refusal.TheVariants.{OutsideElement, CloseElsewhere}
 use Rattle.nodes.specs.Hinge.{tag1, tag2, tag3}
-use Rattle.nodes.specs.Whole.{fault_by}
+use Rattle.nodes.specs.Refusals.{fault_by}
 use Rattle.tapes.specs.Forest.{none, value, element, Forest, encode}
 use Rattle.tapes.specs.Source.{tape_nodes, tape_end}
 

@@ -49,22 +49,21 @@ pub fn cut_command<'a>(bytes: &'a [u8]) -> Result<Cut<'a>, Refusal>
             let command = Command::Open { tag, close };
             Ok(Cut { command, rest })
         }
-        [CLOSE, rest @ ..] => {
-            let command = Command::Close;
-            Ok(Cut { command, rest })
-        }
+        [CLOSE, rest @ ..] => Ok(Cut {
+            command: Command::Close,
+            rest,
+        }),
         [VALUE, t1, t0, n3, n2, n1, n0, rest @ ..] => {
             let tag = u16::from_be_bytes([*t1, *t0]);
             let number = u32::from_be_bytes([*n3, *n2, *n1, *n0]);
             let command = Command::Value { tag, number };
             Ok(Cut { command, rest })
         }
-        [END, rest @ ..] => {
-            let command = Command::End;
-            Ok(Cut { command, rest })
-        }
-        [BEGIN | OPEN | VALUE, ..] => Err(Refusal::ShortCommand),
-        [] => Err(Refusal::ShortCommand),
+        [END, rest @ ..] => Ok(Cut {
+            command: Command::End,
+            rest,
+        }),
+        [] | [BEGIN | OPEN | VALUE, ..] => Err(Refusal::ShortCommand),
         _ => Err(Refusal::UnknownCommand),
     }
 }

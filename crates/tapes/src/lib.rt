@@ -5,6 +5,7 @@
 pub mod check;
 pub mod command;
 pub mod laws;
+mod reader;
 pub mod source;
 pub mod stage;
 pub mod tape;

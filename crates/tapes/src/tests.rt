@@ -16,12 +16,9 @@ fn ending(bytes: &[u8]) -> (u8, u32) {
     let mut source = TapeSource::new(bytes, 3, 9);
     for _ in 0..100 {
         match source.take() {
+            Ok(Some(_)) => {}
+            Ok(None) => return (0, 0),
             Err(fault) => return (fault.refusal.number(), fault.place),
-            Ok(taken) => {
-                if taken.is_none() {
-                    return (0, 0);
-                }
-            }
         }
     }
     (99, 0)
@@ -46,22 +43,19 @@ fn each_damage_is_told_with_its_place(rt: HostRuntime) {
         (32, 41, (7, 26)),
         (11, 50, (8, 49)),
     ];
-    for case in cases {
+    for (at, byte, refusal) in cases {
         let mut bytes = HINGE;
-        let at: usize = case.0;
         assert!(rt; at < 51);
-        bytes[at] = case.1;
-        assert_eq!(rt; ending(&bytes), case.2);
+        bytes[at] = byte;
+        assert_eq!(rt; ending(&bytes), refusal);
     }
 }
 
 // Two blocks, one behind the other, each with its document's number.
 fn two_blocks(first: u8, second: u8) -> [u8; 102] {
     let mut bytes = [0; 102];
-    for i in 0..51 {
-        bytes[i] = HINGE[i];
-        bytes[51 + i] = HINGE[i];
-    }
+    bytes[..51].copy_from_slice(&HINGE);
+    bytes[51..].copy_from_slice(&HINGE);
     bytes[4] = first;
     bytes[55] = second;
     bytes[62] = 100;
@@ -74,12 +68,9 @@ fn two_blocks(first: u8, second: u8) -> [u8; 102] {
 fn nested(command: u8) -> [u8; 1024] {
     let mut bytes = [0; 1024];
     bytes[0] = 1;
-    for k in 0..64 {
-        let at: usize = 5 + 7 * k;
-        let [_, _, high, low] = (1000 - k as u32).to_be_bytes();
-        bytes[at] = 2;
-        bytes[at + 5] = high;
-        bytes[at + 6] = low;
+    for (open, close) in bytes[5..453].chunks_exact_mut(7).zip((937..=1000).rev()) {
+        let [_, _, high, low] = u32::to_be_bytes(close);
+        open.copy_from_slice(&[2, 0, 0, 0, 0, high, low]);
     }
     bytes[453] = command;
     bytes
@@ -106,14 +97,10 @@ fn a_tape_is_at_most_16_mebibytes_long(rt: HostRuntime) -> Result<(), Fail> {
 fn a_tag_has_its_nodes_in_tree_order(rt: HostRuntime) -> Result<(), Fail> {
     let tape = Tape::new(&HINGE);
     let mut bodies = tape.source(2, 9);
-    let rows = [(12, 41, 2), (26, 40, 3)];
-    for expected in rows {
+    for expected in [(12, 41, 2), (26, 40, 3)] {
         let row = match bodies.take() {
-            Ok(taken) => match taken {
-                Some(node) => node.row(),
-                None => Row::BLANK,
-            },
-            Err(_) => Row::BLANK,
+            Ok(Some(node)) => Row::from(node),
+            _ => Row::BLANK,
         };
         assert_eq!(rt; row.document, 7);
         assert_eq!(rt; (row.start, row.end, row.level), expected);
@@ -122,7 +109,7 @@ fn a_tag_has_its_nodes_in_tree_order(rt: HostRuntime) -> Result<(), Fail> {
         Ok(taken) => {
             assert!(rt; taken.is_none());
             Ok(())
-        },
+        }
         Err(_) => Err(Fail::new("a sound tape ends")),
     }
 }

@@ -1,7 +1,7 @@
 use Rattle.std.proofs.Common.{◌≡◌, ℕ, ◌+◌, ◌*◌, ◌/◌, ◌%◌, ◌<◌, ◌≤◌, List, [], ◌∷◌, ◌++◌, length, get_or, take, drop, sym, refl, ap, ◌∙◌, append_assoc, suc-add, arith, length-append, length-drop, drop-drop, take_at, get_or-append-add}
 use lib.Seq.{drop-append-add, get_or_at}
 use Rattle.nodes.specs.Bytes.{two, four, four_at}
-use Rattle.tapes.proofs.Bytes.{four_back}
+use Rattle.std.proofs.lemmas.Nat.{from_be_bytes-to_be_bytes_4}
 use Rattle.writer.specs.Writer.{written}
 use Rattle.writer.specs.Calls.{over}
 
@@ -62,4 +62,4 @@ held-over q k old t o i e h =
     ∙ ap (λ x. o / 16777216 % 256 * 16777216 + x * 65536 + get_or (q ++ l) (i + 3 + 2) 0 * 256 + get_or (q ++ l) (i + 3 + 3) 0) a₁
     ∙ ap (λ x. o / 16777216 % 256 * 16777216 + o / 65536 % 256 * 65536 + x * 256 + get_or (q ++ l) (i + 3 + 3) 0) a₂
     ∙ ap (λ x. o / 16777216 % 256 * 16777216 + o / 65536 % 256 * 65536 + o / 256 % 256 * 256 + x) a₃
-    ∙ four_back o h
+    ∙ from_be_bytes-to_be_bytes_4 o h

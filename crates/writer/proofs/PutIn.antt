@@ -2,20 +2,18 @@ use Rattle.std.proofs.Common.{◌≡◌, ℕ, suc, ◌+◌, ◌<◌, ◌≤◌, 
 use Rattle.std.proofs.lemmas.Bool.{le-leb, lt-ltb, and_from}
 use Rattle.nodes.specs.Limits.{max_bytes, max_document, max_level}
 use Rattle.nodes.specs.Bytes.{four}
-use Rattle.nodes.specs.Refusals.{number}
 use Rattle.nodes.specs.declared.refusal.Refusal.{Refusal}
-use Rattle.nodes.specs.declared.refusal.Refusal.TheVariants.{Misplaced, DocumentOrder, TooDeep, NoRoom, BrokenOpen}
+use Rattle.nodes.specs.declared.refusal.Refusal.TheVariants.{DocumentOrder, TooDeep, NoRoom, BrokenOpen}
 use Rattle.tapes.specs.Reading.{test}
 use Rattle.tapes.specs.Forest.{Children, none, value, element, Document, Forest, size, encode_in, encode_from, encode, FineIn, FineFrom, Fine}
 use Rattle.tapes.specs.Draft.{Opened, Draft, between, begun, within, rooted, opened, document, append, grown, closed, size_of, open_size, draft_size, least_of, open_bytes}
 use Rattle.tapes.proofs.Commands.{some_not}
 use Rattle.tapes.proofs.Drafts.{encode_app, size-append, size_snoc, least_snoc, length_docs}
 use Rattle.writer.specs.Writer.{room}
-use Rattle.writer.specs.Calls.{calls_in, calls_of, open_calls, draft_calls, put, judge, unless_refused, after, answer_at, answer, put_from, answers_from, put_in, cons_if, accepted, around_at, bytes_of_draft, over, finished_in}
+use Rattle.writer.specs.Calls.{Answer, calls_in, calls_of, open_calls, draft_calls, put, judge, unless_refused, after, answer_at, answer, put_from, answers_from, put_in, cons_if, accepted, around_at, bytes_of_draft, over, finished_in}
 use Rattle.writer.specs.Writes.{StartsWith, Unbroken}
 use Rattle.writer.specs.declared.call.WriterCall.{WriterCall}
 use Rattle.writer.specs.declared.call.WriterCall.TheVariants.{Begin, Open, Value, Close, End}
-use Rattle.writer.specs.declared.state.WriteFault.{WriteFault}
 
 -- one call more
 pub put_snoc : (old : List ℕ) (d : Draft) (cs : List WriterCall) (c : WriterCall) → put_from old d (cs ++ (c ∷ [])) ≡ after old (put_from old d cs) c
@@ -195,35 +193,32 @@ test_still : (b : Bool) (f : Refusal) (x : Option Refusal) → (f ≡ BrokenOpen
 test_still true f x h k = k
 test_still false f x h k = h
 
-other : (f : Refusal) → (number f ≡ 21 → ⊥) → f ≡ BrokenOpen → ⊥
-other f h e = h (ap number e)
-
 room_still : (at k : ℕ) (old : List ℕ) → WholeStill (test (room at k old) NoRoom None)
-room_still at k old = test_still (room at k old) NoRoom None (other NoRoom (λ e. omega arith)) tt
+room_still at k old = test_still (room at k old) NoRoom None (λ e. cc) tt
 
 judge_still : (old : List ℕ) (d : Draft) (c : WriterCall) → WholeStill (judge old d c)
-judge_still old (between ds) (Begin m) = test_still (leb m max_document) DocumentOrder _ (other DocumentOrder (λ e. omega arith)) (test_still (leb (least_of 0 ds) m) DocumentOrder _ (other DocumentOrder (λ e. omega arith)) (room_still (size_of ds) 5 old))
-judge_still old (between ds) (Open u) = other Misplaced (λ e. omega arith)
-judge_still old (between ds) (Value u v) = other Misplaced (λ e. omega arith)
-judge_still old (between ds) Close = other Misplaced (λ e. omega arith)
-judge_still old (between ds) End = other Misplaced (λ e. omega arith)
-judge_still old (begun ds n) (Begin m) = other Misplaced (λ e. omega arith)
+judge_still old (between ds) (Begin m) = test_still (leb m max_document) DocumentOrder _ (λ e. cc) (test_still (leb (least_of 0 ds) m) DocumentOrder _ (λ e. cc) (room_still (size_of ds) 5 old))
+judge_still old (between ds) (Open u) = λ e. cc
+judge_still old (between ds) (Value u v) = λ e. cc
+judge_still old (between ds) Close = λ e. cc
+judge_still old (between ds) End = λ e. cc
+judge_still old (begun ds n) (Begin m) = λ e. cc
 judge_still old (begun ds n) (Open u) = room_still (size_of ds + 5) 7 old
-judge_still old (begun ds n) (Value u v) = other Misplaced (λ e. omega arith)
-judge_still old (begun ds n) Close = other Misplaced (λ e. omega arith)
-judge_still old (begun ds n) End = other Misplaced (λ e. omega arith)
-judge_still old (within ds n fs x) (Begin m) = other Misplaced (λ e. omega arith)
-judge_still old (within ds n fs x) (Open u) = test_still (ltb (length fs + 1) max_level) TooDeep _ (other TooDeep (λ e. omega arith)) (room_still (size_of ds + 5 + open_size (x ∷ fs)) 7 old)
-judge_still old (within ds n fs x) (Value u v) = test_still (ltb (length fs + 1) max_level) TooDeep _ (other TooDeep (λ e. omega arith)) (room_still (size_of ds + 5 + open_size (x ∷ fs)) 7 old)
+judge_still old (begun ds n) (Value u v) = λ e. cc
+judge_still old (begun ds n) Close = λ e. cc
+judge_still old (begun ds n) End = λ e. cc
+judge_still old (within ds n fs x) (Begin m) = λ e. cc
+judge_still old (within ds n fs x) (Open u) = test_still (ltb (length fs + 1) max_level) TooDeep _ (λ e. cc) (room_still (size_of ds + 5 + open_size (x ∷ fs)) 7 old)
+judge_still old (within ds n fs x) (Value u v) = test_still (ltb (length fs + 1) max_level) TooDeep _ (λ e. cc) (room_still (size_of ds + 5 + open_size (x ∷ fs)) 7 old)
 judge_still old (within ds n fs x) Close = room_still (size_of ds + 5 + open_size (x ∷ fs)) 1 old
-judge_still old (within ds n fs x) End = other Misplaced (λ e. omega arith)
-judge_still old (rooted ds n t f) (Begin m) = other Misplaced (λ e. omega arith)
-judge_still old (rooted ds n t f) (Open u) = other Misplaced (λ e. omega arith)
-judge_still old (rooted ds n t f) (Value u v) = other Misplaced (λ e. omega arith)
-judge_still old (rooted ds n t f) Close = other Misplaced (λ e. omega arith)
+judge_still old (within ds n fs x) End = λ e. cc
+judge_still old (rooted ds n t f) (Begin m) = λ e. cc
+judge_still old (rooted ds n t f) (Open u) = λ e. cc
+judge_still old (rooted ds n t f) (Value u v) = λ e. cc
+judge_still old (rooted ds n t f) Close = λ e. cc
 judge_still old (rooted ds n t f) End = room_still (size_of ds + 5 + (8 + size f)) 1 old
 
-answer_still : (at : ℕ) (j : Option Refusal) (got : List (Option WriteFault)) → WholeStill j → Unbroken got → Unbroken (answer_at at j ∷ got)
+answer_still : (at : ℕ) (j : Option Refusal) (got : List Answer) → WholeStill j → Unbroken got → Unbroken (answer_at at j ∷ got)
 answer_still at None got h k = k
 answer_still at (Some f) got h k = (h, k)
 

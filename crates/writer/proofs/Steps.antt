@@ -1,4 +1,4 @@
-use Rattle.std.proofs.Common.{◌≡◌, ℕ, ◌+◌, ◌-◌, ◌<◌, ◌≤◌, Bool, true, false, cond, ◌&&◌, eqb, ltb, leb, List, [], ◌∷◌, ◌++◌, length, get_or, Some, None, Ok, Err, Option, Result, sym, refl, ap, ◌∙◌, subst, arith, length-append}
+use Rattle.std.proofs.Common.{◌≡◌, ℕ, ◌+◌, ◌-◌, ◌<◌, ◌≤◌, Bool, true, false, cond, ◌&&◌, eqb, ltb, leb, List, [], ◌∷◌, ◌++◌, length, get_or, Some, None, Ok, Err, Option, sym, refl, ap, ◌∙◌, subst, arith, length-append}
 use Rattle.std.proofs.lemmas.Bool.{leb-true, ltb-true, ne_eqb, lt-ltb, and_parts}
 use Rattle.nodes.specs.Limits.{max_bytes, max_document, max_level}
 use Rattle.nodes.specs.Bytes.{two, four, four_at}
@@ -11,14 +11,15 @@ use Rattle.tapes.proofs.Walk.{length-encode}
 use Rattle.tapes.proofs.Commands.{some_not}
 use Rattle.tapes.proofs.Rows.{passed}
 use Rattle.tapes.proofs.Drafts.{size-append, size_snoc, least_snoc, fine_append, fine_snoc, fine_closed, closed-size, length_draft, put_open, put-value, put_end, put_close, front, inner, innermost, length_front}
+use Rattle.writer.specs.Root.{no_open}
 use Rattle.writer.specs.Writer
-use Rattle.writer.specs.Writer.{Out, In, written, room, no_open, around, held_by, intact, begin_refusal, open_refusal, value_refusal, close_refusal, end_refusal, begin_bytes, open_bytes, value_bytes, close_bytes, end_bytes}
+use Rattle.writer.specs.Writer.{Out, In, written, room, around, held_by, intact, begin_refusal, open_refusal, value_refusal, close_refusal, end_refusal, begin_bytes, open_bytes, value_bytes, close_bytes, end_bytes}
 use Rattle.writer.specs.Views.{out, ins, Refuses, Begins, Opens, Values, Closes, Ends}
-use Rattle.writer.specs.Calls.{judge, put, answer_at, unless_refused, around_at, bytes_of_draft, over}
-use Rattle.writer.specs.Turns.{State, free, busy, out_numbers, in_numbers, Stands, Holds, Made, fault_of}
+use Rattle.writer.specs.Calls.{Answer, judge, put, answer_at, unless_refused, around_at, bytes_of_draft, over}
+use Rattle.writer.specs.Turns.{State, free, busy, out_numbers, in_numbers, Stands, Holds, Made}
 use Rattle.writer.specs.declared.call.WriterCall.{WriterCall}
 use Rattle.writer.specs.declared.call.WriterCall.TheVariants.{Begin, Open, Value, Close, End}
-use Rattle.writer.specs.declared.state.WriteFault.{WriteFault}
+use Rattle.writer.specs.declared.fault.WriteFault.{WriteFault}
 use Rattle.writer.specs.declared.state.GivenBack.{GivenBack}
 use Rattle.writer.specs.declared.state.WriterOutside.{WriterOutside}
 use Rattle.writer.specs.declared.state.WriterInside.{WriterInside}
@@ -42,30 +43,22 @@ length-held old bs s d i =
     ap length i.bytes ∙ length_over (bytes_of_draft d) old (omega arith)
 
 -- an accepted call, and a refused one
-accepted : (old bs : List ℕ) (s : State) (d : Draft) (c : WriterCall) → judge old d c ≡ None → Holds old bs s (put old d c) → Made old bs s d c None
+accepted : (old bs : List ℕ) (s : State) (d : Draft) (c : WriterCall) → judge old d c ≡ None → Holds old bs s (put old d c) → Made old bs s d c (Ok tt)
 accepted old bs s d c e i = record {
   answers = sym (ap (answer_at (draft_size d)) e);
   holds = subst (λ (x : Draft). Holds old bs s x) (sym (ap (λ j. unless_refused j (put old d c) d) e)) i;
 }
 
 refused : (old bs bs' : List ℕ) (s s' : State) (d : Draft) (c : WriterCall) (first : Option Refusal) (n : ℕ) (e : WriteFault)
-    → Holds old bs s d → Refuses first n bs bs' e → first ≡ judge old d c → n ≡ draft_size d → s' ≡ s → Made old bs' s' d c (Some e)
+    → Holds old bs s d → Refuses first n bs bs' e → first ≡ judge old d c → n ≡ draft_size d → s' ≡ s → Made old bs' s' d c (Err e)
 refused old bs bs' s s' d c first n e i r p q h =
     let j : judge old d c ≡ Some e.refusal = sym p ∙ r.refusal in
     let i₁ : Holds old bs' s d = subst (λ (x : List ℕ). Holds old x s d) (sym r.bytes) i in
     let i₂ : Holds old bs' s' d = subst (λ (x : State). Holds old bs' x d) (sym h) i₁ in
     record {
-      answers = ap (λ k. Some (record { refusal = e.refusal; place = k })) (r.place ∙ q) ∙ sym (ap (answer_at (draft_size d)) j);
+      answers = ap (λ k. Err (record { refusal = e.refusal; place = k })) (r.place ∙ q) ∙ sym (ap (answer_at (draft_size d)) j);
       holds = subst (λ (x : Draft). Holds old bs' s' x) (sym (ap (λ z. unless_refused z (put old d c) d) j)) i₂;
     }
-
--- a call that the writer's state does not have
-pub misplaced : (old bs : List ℕ) (s : State) (d : Draft) (c : WriterCall) (a : Option WriteFault) (n : ℕ) → Holds old bs s d
-    → judge old d c ≡ Some Misplaced → a ≡ answer_at n (Some Misplaced) → n ≡ draft_size d → Made old bs s d c a
-misplaced old bs s d c a n i j e p = record {
-  answers = e ∙ ap (λ k. answer_at k (Some Misplaced)) p ∙ sym (ap (answer_at (draft_size d)) j);
-  holds = subst (λ (x : Draft). Holds old bs s x) (sym (ap (λ z. unless_refused z (put old d c) d) j)) i;
-}
 
 -- a write at the end of what is written
 wrote : (old bs bs' new : List ℕ) (s : State) (d d' : Draft) (n : ℕ) → Holds old bs s d → n ≡ draft_size d
@@ -115,13 +108,13 @@ begin_put old bs bs' w v (within ds n fs x) m i j hv hb = absurd i.stands
 begin_put old bs bs' w v (rooted ds n t f) m i j hv hb = absurd i.stands
 
 pub begin_ok : (old bs bs' : List ℕ) (w : Out) (d : Draft) (m : ℕ) (v : WriterInside)
-    → Holds old bs (free w) d → Begins bs bs' w m (Ok v) → Made old bs' (busy (ins v)) d (Begin m) None
+    → Holds old bs (free w) d → Begins bs bs' w m (Ok v) → Made old bs' (busy (ins v)) d (Begin m) (Ok tt)
 begin_ok old bs bs' w d m v i b =
     let j : judge old d (Begin m) ≡ None = sym (begin_first old bs w d m i) ∙ b.none in
     accepted old bs' (busy (ins v)) d (Begin m) j (begin_put old bs bs' w (ins v) d m i j b.writer b.bytes)
 
 pub begin_err : (old bs bs' : List ℕ) (w : Out) (d : Draft) (m : ℕ) (e : GivenBack WriterOutside)
-    → Holds old bs (free w) d → Begins bs bs' w m (Err e) → Made old bs' (free (out e.writer)) d (Begin m) (Some e.fault)
+    → Holds old bs (free w) d → Begins bs bs' w m (Err e) → Made old bs' (free (out e.writer)) d (Begin m) (Err e.fault)
 begin_err old bs bs' w d m e i b =
     refused old bs bs' (free w) (free (out e.writer)) d (Begin m) (begin_refusal bs w m) w.length e.fault i b.0
     (begin_first old bs w d m i) (out_place old bs w d i) (ap free b.1)
@@ -178,8 +171,8 @@ open_put old bs bs' w v (within ds n fs x) t sm i j hv hb =
     }
 open_put old bs bs' w v (rooted ds n u f) t sm i j hv hb = absurd (some_not j)
 
-pub open_made : (old bs bs' : List ℕ) (w v : In) (d : Draft) (t : ℕ) (r : Result (Unit {0}) WriteFault) → t < 65536
-    → Holds old bs (busy w) d → Opens bs bs' w v t r → Made old bs' (busy v) d (Open t) (fault_of r)
+pub open_made : (old bs bs' : List ℕ) (w v : In) (d : Draft) (t : ℕ) (r : Answer) → t < 65536
+    → Holds old bs (busy w) d → Opens bs bs' w v t r → Made old bs' (busy v) d (Open t) r
 open_made old bs bs' w v d t (Ok u) sm i b =
     let j : judge old d (Open t) ≡ None = sym (open_first old bs w d t i) ∙ b.none in
     accepted old bs' (busy v) d (Open t) j (open_put old bs bs' w v d t sm i j b.writer b.bytes)
@@ -222,8 +215,8 @@ value-put old bs bs' w v (within ds n fs x) t y sm sn i j hv hb =
     }
 value-put old bs bs' w v (rooted ds n u f) t y sm sn i j hv hb = absurd (some_not j)
 
-pub value_made : (old bs bs' : List ℕ) (w v : In) (d : Draft) (t y : ℕ) (r : Result (Unit {0}) WriteFault) → t < 65536 → y < 4294967296
-    → Holds old bs (busy w) d → Values bs bs' w v t y r → Made old bs' (busy v) d (Value t y) (fault_of r)
+pub value_made : (old bs bs' : List ℕ) (w v : In) (d : Draft) (t y : ℕ) (r : Answer) → t < 65536 → y < 4294967296
+    → Holds old bs (busy w) d → Values bs bs' w v t y r → Made old bs' (busy v) d (Value t y) r
 value_made old bs bs' w v d t y (Ok u) sm sn i b =
     let j : judge old d (Value t y) ≡ None = sym (value-first old bs w d t y i) ∙ b.none in
     accepted old bs' (busy v) d (Value t y) j (value-put old bs bs' w v d t y sm sn i j b.writer b.bytes)
@@ -261,13 +254,13 @@ end_put old bs bs' w v (rooted ds n t f) i j hv hb =
       fine = fine_snoc 0 ds x i.fine.0.0 i.fine.0.1 i.fine.0.2 i.fine.1 i.fine.2;
     }
 
-pub end_ok : (old bs bs' : List ℕ) (w : In) (d : Draft) (v : WriterOutside) → Holds old bs (busy w) d → Ends bs bs' w (Ok v) → Made old bs' (free (out v)) d End None
+pub end_ok : (old bs bs' : List ℕ) (w : In) (d : Draft) (v : WriterOutside) → Holds old bs (busy w) d → Ends bs bs' w (Ok v) → Made old bs' (free (out v)) d End (Ok tt)
 end_ok old bs bs' w d v i b =
     let j : judge old d End ≡ None = sym (end_first old bs w d i) ∙ b.none in
     accepted old bs' (free (out v)) d End j (end_put old bs bs' w (out v) d i j b.writer b.bytes)
 
 pub end_err : (old bs bs' : List ℕ) (w : In) (d : Draft) (e : GivenBack WriterInside)
-    → Holds old bs (busy w) d → Ends bs bs' w (Err e) → Made old bs' (busy (ins e.writer)) d End (Some e.fault)
+    → Holds old bs (busy w) d → Ends bs bs' w (Err e) → Made old bs' (busy (ins e.writer)) d End (Err e.fault)
 end_err old bs bs' w d e i b =
     refused old bs bs' (busy w) (busy (ins e.writer)) d End (end_refusal bs w) w.length e.fault i b.0 (end_first old bs w d i) (in_place old bs w d i) (ap busy b.1)
 
@@ -375,8 +368,8 @@ close_put old bs bs' w v (within ds n fs x) i j hv hb =
     }
 close_put old bs bs' w v (rooted ds n t f) i j hv hb = absurd (some_not j)
 
-pub close_made : (old bs bs' : List ℕ) (w v : In) (d : Draft) (r : Result (Unit {0}) WriteFault)
-    → Holds old bs (busy w) d → Closes bs bs' w v r → Made old bs' (busy v) d Close (fault_of r)
+pub close_made : (old bs bs' : List ℕ) (w v : In) (d : Draft) (r : Answer)
+    → Holds old bs (busy w) d → Closes bs bs' w v r → Made old bs' (busy v) d Close r
 close_made old bs bs' w v d (Ok u) i b =
     let j : judge old d Close ≡ None = sym (close_first old bs w d i) ∙ b.none in
     accepted old bs' (busy v) d Close j (close_put old bs bs' w v d i j b.writer b.bytes)

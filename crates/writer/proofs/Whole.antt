@@ -1,4 +1,4 @@
-use Rattle.std.proofs.Common.{◌≡◌, ℕ, suc, ◌+◌, ◌<◌, min, List, [], ◌∷◌, ◌++◌, length, get_or, take, drop, set, Some, None, Option, sym, refl, ap, ◌∙◌, subst, inl, inr, append_assoc, append-nil, add-one, arith, length-append, length-take-le, take_all, drop-cons, take-suc}
+use Rattle.std.proofs.Common.{◌≡◌, ℕ, suc, ◌+◌, ◌<◌, min, List, [], ◌∷◌, ◌++◌, length, get_or, take, drop, set, Some, Ok, Option, sym, refl, ap, ◌∙◌, subst, inl, inr, append_assoc, append-nil, add-one, arith, length-append, length-take-le, take_all, drop-cons, take-suc}
 use lib.Seq.{set_at}
 use Rattle.std.proofs.lemmas.List.{take_at, drop_all}
 use Rattle.std.proofs.lemmas.Slice.{drop-append-drop}
@@ -9,15 +9,14 @@ use Rattle.tapes.proofs.Checks.{tape_of}
 use Rattle.tapes.proofs.Commands.{some_not}
 use Rattle.tapes.proofs.Drafts.{length_docs}
 use Rattle.writer.specs.Writer.{Out}
-use Rattle.writer.specs.Calls.{draft_calls, put_in, answers, after, accepted, over, finished_length}
+use Rattle.writer.specs.Calls.{Answer, draft_calls, put_in, answers, after, accepted, over, finished_length}
 use Rattle.writer.specs.Turns.{State, free, busy, Stands, Holds, Made, length_of, Far}
 use Rattle.writer.specs.Writes.{Unbroken, PutsIn, Writes, WritesAll}
 use Rattle.writer.specs.declared.call.WriterCall.{WriterCall}
-use Rattle.writer.specs.declared.state.WriteFault.{WriteFault}
 use Rattle.writer.proofs.PutIn.{put_snoc, answers_snoc, length_answers, accepted_calls, finished_stand, answers_still, forest_in}
 
 -- a writer outside has put a forest in
-pub puts_in : (cs : List WriterCall) (old new : List ℕ) (s : State) (d : Draft) (got : List (Option WriteFault)) (n : ℕ)
+pub puts_in : (cs : List WriterCall) (old new : List ℕ) (s : State) (d : Draft) (got : List Answer) (n : ℕ)
     → Holds old new s d → accepted cs got ≡ draft_calls d → finished_length d ≡ Some n → (f : Forest) × PutsIn cs got (take n new) f
 puts_in cs old new s (between f) got n h e p =
     let q : length (encode f) ≡ n = cc in
@@ -40,20 +39,17 @@ ends_at (busy w) (within f n fs x) e = refl
 ends_at (busy w) (rooted f n t c) e = refl
 
 -- one answer more over those before
-set-over : (j b : List (Option WriteFault)) (a : Option WriteFault) (i : ℕ) → length j ≡ i → i < length b → set (over j b) i a ≡ over (j ++ (a ∷ [])) b
+set-over : (j b : List Answer) (a : Answer) (i : ℕ) → length j ≡ i → i < length b → set (over j b) i a ≡ over (j ++ (a ∷ [])) b
 set-over j b a i e h =
     let lt : length j < length b = omega arith in
     let l : suc (length j) ≡ length (j ++ (a ∷ [])) = sym (add-one (length j)) ∙ sym (length-append j (a ∷ [])) in
-    ap (λ r. set (j ++ r) i a) (drop-cons b (length j) None lt)
-    ∙ set_at j (get_or b (length j) None) (drop (suc (length j)) b) a i e
+    ap (λ r. set (j ++ r) i a) (drop-cons b (length j) (Ok tt) lt)
+    ∙ set_at j (get_or b (length j) (Ok tt)) (drop (suc (length j)) b) a i e
     ∙ ap (λ k. j ++ (a ∷ drop k b)) l
     ∙ sym (append_assoc j (a ∷ []) (drop (length (j ++ (a ∷ []))) b))
 
-pub fresh_far : (old : List ℕ) (s : State) (before : List (Option WriteFault)) → Stands s (between []) → Far [] old old s before before
-fresh_far old s before e = record { holds = record { bytes = refl; stands = e; fits = omega arith; short = omega arith; fine = tt }; answers = refl }
-
 -- one call more
-pub farther : (old new new' : List ℕ) (s s' : State) (calls : List WriterCall) (z : WriterCall) (i : ℕ) (before got : List (Option WriteFault)) (a : Option WriteFault)
+pub farther : (old new new' : List ℕ) (s s' : State) (calls : List WriterCall) (z : WriterCall) (i : ℕ) (before got : List Answer) (a : Answer)
     → Far (take i calls) old new s before got → i < length calls → i < length before
     → ((o : List ℕ) (d : Draft) → Holds o new s d → Made o new' s' d (get_or calls i z) a)
     → Far (take (i + 1) calls) old new' s' before (set got i a)
@@ -81,7 +77,7 @@ as_many calls n i e =
     ]
 
 -- what calls wrote, by what they put in
-pub writes : (cs : List WriterCall) (old new : List ℕ) (s : State) (got : List (Option WriteFault)) (r : Option ℕ)
+pub writes : (cs : List WriterCall) (old new : List ℕ) (s : State) (got : List Answer) (r : Option ℕ)
     → Holds old new s (put_in old cs) → got ≡ answers old cs → r ≡ length_of s → Writes cs old new got r
 writes cs old new s got r h e p =
     let d : Draft = put_in old cs in
@@ -110,11 +106,11 @@ answers_first told before n e =
       | inr h ↦ take_at told (drop (length told) before) n (omega arith)
     ]
 
-pub writes_all : (calls : List WriterCall) (old new : List ℕ) (s : State) (before after : List (Option WriteFault)) (i : ℕ) (r : Option ℕ)
+pub writes_all : (calls : List WriterCall) (old new : List ℕ) (s : State) (before after : List Answer) (i : ℕ) (r : Option ℕ)
     → i ≡ min (length calls) (length before) → Far (take i calls) old new s before after → r ≡ length_of s → WritesAll calls old new before after r
 writes_all calls old new s before after i r m f e =
     let cs : List WriterCall = take i calls in
-    let told : List (Option WriteFault) = answers old cs in
+    let told : List Answer = answers old cs in
     let n : length told ≡ i = length_answers old (between []) cs ∙ length-take-le i calls (omega arith) in
     let g : take (length calls) after ≡ told = ap (take (length calls)) f.answers ∙ answers_first told before (length calls) (n ∙ m) in
     record {

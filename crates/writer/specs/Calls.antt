@@ -1,14 +1,15 @@
-use Rattle.std.specs.Prelude.{ℕ, ◌+◌, List, [], ◌∷◌, ◌++◌, length, drop, Some, None, Option, nat_le, nat_lt}
+use Rattle.std.specs.Prelude.{ℕ, ◌+◌, List, [], ◌∷◌, ◌++◌, length, drop, Some, None, Ok, Err, Option, Result, nat_le, nat_lt}
 use Rattle.nodes.specs.Limits.{max_document, max_level}
 use Rattle.nodes.specs.declared.refusal.Refusal.{Refusal}
 use Rattle.nodes.specs.declared.refusal.Refusal.TheVariants.{Misplaced, DocumentOrder, TooDeep, NoRoom}
 use Rattle.tapes.specs.Reading.{test}
 use Rattle.tapes.specs.Forest.{Children, none, value, element, Forest, size, encode}
 use Rattle.tapes.specs.Draft.{Opened, Draft, between, begun, within, rooted, opened, document, grown, closed, size_of, open_size, draft_size, least_of, Operand, draft_bytes}
-use Rattle.writer.specs.Writer.{room, no_open}
+use Rattle.writer.specs.Root.{no_open}
+use Rattle.writer.specs.Writer.{room, fault_at}
 use Rattle.writer.specs.declared.call.WriterCall.{WriterCall}
 use Rattle.writer.specs.declared.call.WriterCall.TheVariants.{Begin, Open, Value, Close, End}
-use Rattle.writer.specs.declared.state.WriteFault.{WriteFault}
+use Rattle.writer.specs.declared.fault.WriteFault.{WriteFault}
 
 -- the calls that put children in, in front of others
 abbrev pub calls_in : Children → List WriterCall → List WriterCall
@@ -91,11 +92,14 @@ abbrev pub after : List ℕ → Draft → WriterCall → Draft
 after old d c = unless_refused (judge old d c) (put old d c) d
 
 -- what a call is answered: a refusal is told with the bytes written
-abbrev pub answer_at : ℕ → Option Refusal → Option WriteFault
-answer_at at None = None
-answer_at at (Some f) = Some (record { refusal = f; place = at })
+abbrev pub Answer : Type 0
+Answer = Result (Unit {0}) WriteFault
 
-abbrev pub answer : List ℕ → Draft → WriterCall → Option WriteFault
+abbrev pub answer_at : ℕ → Option Refusal → Answer
+answer_at at None = Ok tt
+answer_at at (Some f) = Err (fault_at at f)
+
+abbrev pub answer : List ℕ → Draft → WriterCall → Answer
 answer old d c = answer_at (draft_size d) (judge old d c)
 
 -- calls one after another: what they put in, and what they are answered
@@ -103,7 +107,7 @@ abbrev pub put_from : List ℕ → Draft → List WriterCall → Draft
 put_from old d [] = d
 put_from old d (c ∷ cs) = put_from old (after old d c) cs
 
-abbrev pub answers_from : List ℕ → Draft → List WriterCall → List (Option WriteFault)
+abbrev pub answers_from : List ℕ → Draft → List WriterCall → List Answer
 answers_from old d [] = []
 answers_from old d (c ∷ cs) = answer old d c ∷ answers_from old (after old d c) cs
 
@@ -111,15 +115,15 @@ answers_from old d (c ∷ cs) = answer old d c ∷ answers_from old (after old d
 abbrev pub put_in : List ℕ → List WriterCall → Draft
 put_in old cs = put_from old (between []) cs
 
-abbrev pub answers : List ℕ → List WriterCall → List (Option WriteFault)
+abbrev pub answers : List ℕ → List WriterCall → List Answer
 answers old cs = answers_from old (between []) cs
 
 -- the calls that were accepted
-abbrev pub cons_if : Option WriteFault → WriterCall → List WriterCall → List WriterCall
-cons_if None c cs = c ∷ cs
-cons_if (Some e) c cs = cs
+abbrev pub cons_if : Answer → WriterCall → List WriterCall → List WriterCall
+cons_if (Ok u) c cs = c ∷ cs
+cons_if (Err e) c cs = cs
 
-abbrev pub accepted : List WriterCall → List (Option WriteFault) → List WriterCall
+abbrev pub accepted : List WriterCall → List Answer → List WriterCall
 accepted [] got = []
 accepted (c ∷ cs) [] = []
 accepted (c ∷ cs) (a ∷ got) = cons_if a c (accepted cs got)

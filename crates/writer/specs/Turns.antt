@@ -1,12 +1,12 @@
-use Rattle.std.specs.Prelude.{◌≡◌, ℕ, ◌+◌, ◌≤◌, Bool, true, false, List, ◌∷◌, length, Some, None, Ok, Err, Option, Result}
+use Rattle.std.specs.Prelude.{◌≡◌, ℕ, ◌+◌, ◌≤◌, Bool, true, false, List, ◌∷◌, length, Some, None, Option}
 use Rattle.nodes.specs.Limits.{max_bytes}
 use Rattle.tapes.specs.Draft.{Draft, between, begun, within, rooted, size_of, open_size, draft_size, least_of, FineDraft}
 use Rattle.tapes.specs.Forest.{size}
-use Rattle.writer.specs.Writer.{Out, In, no_open}
+use Rattle.writer.specs.Root.{no_open}
+use Rattle.writer.specs.Writer.{Out, In}
 use Rattle.writer.specs.Views.{out, ins}
-use Rattle.writer.specs.Calls.{after, answer, put_in, answers, bytes_of_draft, over}
+use Rattle.writer.specs.Calls.{Answer, after, answer, put_in, answers, bytes_of_draft, over}
 use Rattle.writer.specs.declared.call.WriterCall.{WriterCall}
-use Rattle.writer.specs.declared.state.WriteFault.{WriteFault}
 use Rattle.writer.specs.declared.write.Turn.{Turn}
 use Rattle.writer.specs.declared.write.Writer.{Writer}
 use Rattle.writer.specs.declared.write.Writer.TheVariants.{Outside, Inside}
@@ -47,7 +47,7 @@ pub record Holds (old new : List ℕ) (s : State) (d : Draft) : Type 0 where
   pub fine : FineDraft d
 
 -- one call more, and what it is answered
-pub record Made (old new : List ℕ) (s : State) (d : Draft) (c : WriterCall) (a : Option WriteFault) : Type 0 where
+pub record Made (old new : List ℕ) (s : State) (d : Draft) (c : WriterCall) (a : Answer) : Type 0 where
   pub answers : a ≡ answer old d c
   pub holds : Holds old new s (after old d c)
 
@@ -55,17 +55,12 @@ pub record Made (old new : List ℕ) (s : State) (d : Draft) (c : WriterCall) (a
 abbrev pub Turns : List ℕ → State → WriterCall → List ℕ → Turn → Type 0
 Turns bs s c bs' r = (old : List ℕ) (d : Draft) → Holds old bs s d → Made old bs' (state_of r.writer) d c r.answer
 
--- what a call inside a document is answered
-abbrev pub fault_of : Result (Unit {0}) WriteFault → Option WriteFault
-fault_of (Ok u) = None
-fault_of (Err e) = Some e
-
 -- how a writer is left
 abbrev pub length_of : State → Option ℕ
 length_of (free w) = Some w.length
 length_of (busy w) = None
 
 -- some calls are made: what they put in is written, and the answers are over those before
-pub record Far (cs : List WriterCall) (old new : List ℕ) (s : State) (before got : List (Option WriteFault)) : Type 0 where
+pub record Far (cs : List WriterCall) (old new : List ℕ) (s : State) (before got : List Answer) : Type 0 where
   pub holds : Holds old new s (put_in old cs)
   pub answers : got ≡ over (answers old cs) before

@@ -3,7 +3,8 @@ use Rattle.nodes.specs.declared.refusal.Refusal.{Refusal}
 use Rattle.writer.specs.Writer.{Out, In, begin_refusal, open_refusal, value_refusal, close_refusal, end_refusal, begun, opened, valued, closed, ended, begin_bytes, open_bytes, value_bytes, close_bytes, end_bytes}
 use Rattle.writer.specs.declared.state.WriterOutside.{WriterOutside}
 use Rattle.writer.specs.declared.state.WriterInside.{WriterInside}
-use Rattle.writer.specs.declared.state.WriteFault.{WriteFault}
+use Rattle.writer.specs.Root.{is_rooted, depth_of, innermost_of}
+use Rattle.writer.specs.declared.fault.WriteFault.{WriteFault}
 use Rattle.writer.specs.declared.state.GivenBack.{GivenBack}
 
 -- the numbers of a writer
@@ -11,7 +12,7 @@ abbrev pub out : WriterOutside → Out
 out w = record { length = w.length; least = w.least }
 
 abbrev pub ins : WriterInside → In
-ins w = record { length = w.length; least = w.least; rooted = w.rooted; depth = w.depth; innermost = w.innermost }
+ins w = record { length = w.length; least = w.least; rooted = is_rooted w.root; depth = depth_of w.root; innermost = innermost_of w.root }
 
 -- a refused call: the first refusal that applies, at the bytes written, and no byte is changed
 pub record Refuses (first : Option Refusal) (length : ℕ) (old new : List ℕ) (e : WriteFault) : Type 0 where

@@ -6,6 +6,8 @@ use Rattle.nodes.specs.declared.refusal.Refusal.TheVariants.{Misplaced, Document
 use Rattle.tapes.specs.declared.command.Command.TheVariants.{Begin, Open, Close, Value, End}
 use Rattle.tapes.specs.Command.{bytes_of}
 use Rattle.tapes.specs.Reading.{test}
+use Rattle.writer.specs.Root.{no_open}
+use Rattle.writer.specs.declared.fault.WriteFault.{WriteFault}
 
 -- some bytes with others written over them from a place on
 abbrev pub written : ℕ → List ℕ → List ℕ → List ℕ
@@ -33,19 +35,28 @@ abbrev pub room : ℕ → ℕ → List ℕ → Bool
 room at n bs = nat_le (at + n) (length bs) && nat_le (at + n) max_bytes
 
 -- what an open element's last operand holds: the offset of the OPEN around it, and none for a root
-abbrev pub no_open : ℕ
-no_open = 4294967295
-
 abbrev pub around : In → ℕ
 around w = cond (w.depth == 0) no_open w.innermost
 
--- what the innermost OPEN's last operand holds in the caller's bytes
-abbrev pub held_by : List ℕ → In → ℕ
-held_by bs w = four_at bs (w.innermost + 3)
+-- what the last operand of the OPEN at an offset holds in the caller's bytes
+abbrev pub held_at : List ℕ → (at : ℕ) → ℕ
+held_at bs at = four_at bs (at + 3)
 
--- the innermost OPEN is as the writer left it: its byte, and its operand an earlier offset, or none for a root
+-- the OPEN of an element at a depth and an offset is as the writer left it: its byte, and its operand an earlier offset, or
+-- none for a root
+abbrev pub intact_at : List ℕ → (depth at : ℕ) → Bool
+intact_at bs d at = slice_index bs at == 2 && cond (d == 1) (held_at bs at == no_open) (nat_lt (held_at bs at) at)
+
+-- the same of the innermost OPEN
+abbrev pub held_by : List ℕ → In → ℕ
+held_by bs w = held_at bs w.innermost
+
 abbrev pub intact : List ℕ → In → Bool
-intact bs w = slice_index bs w.innermost == 2 && cond (w.depth == 1) (held_by bs w == no_open) (nat_lt (held_by bs w) w.innermost)
+intact bs w = intact_at bs w.depth w.innermost
+
+-- the fault of a refusal at a place, which is how many bytes are written
+abbrev pub fault_at : (place : ℕ) → Refusal → WriteFault
+fault_at n f = record { refusal = f; place = n }
 
 -- the first refusal of each call
 abbrev pub begin_refusal : List ℕ → Out → ℕ → Option Refusal

@@ -3,7 +3,9 @@
 #![tactic(auto)]
 
 pub mod call;
+pub mod fault;
 pub mod history;
+mod root;
 pub mod state;
 #[cfg(test)]
 mod tests;

@@ -1,4 +1,5 @@
-use crate::state::{GivenBack, WriteFault, WriterInside, WriterOutside};
+use crate::fault::WriteFault;
+use crate::state::{GivenBack, WriterInside, WriterOutside};
 use std::test::Fail;
 
 // A call of a writer inside a document.
@@ -17,7 +18,8 @@ fn make(writer: &mut WriterInside, bytes: &mut [u8], call: Call) -> Result<(), W
     }
 }
 
-fn told(res: Result<(), WriteFault>) -> (u8, u32) {
+// The number and place of a refusal, and 0 where there is none.
+pub fn told(res: Result<(), WriteFault>) -> (u8, u32) {
     match res {
         Ok(()) => (0, 0),
         Err(fault) => (fault.refusal.number(), fault.place),
@@ -27,15 +29,13 @@ fn told(res: Result<(), WriteFault>) -> (u8, u32) {
 // A document with elements open, as many as asked for, one in the other.
 fn nested(bytes: &mut [u8], elements: u8) -> Result<WriterInside, Fail> {
     match WriterOutside::fresh().begin(bytes, 7) {
-        Ok(begun) => {
-            let mut writer = begun;
+        Ok(mut writer) => {
             for _ in 0..elements {
                 let _ = writer.open(bytes, 2);
             }
             Ok(writer)
         }
-        Err(refused) => {
-            let GivenBack { writer, fault: _ } = refused;
+        Err(GivenBack { writer, fault: _ }) => {
             let _ = writer.finish();
             Err(Fail::new("begin was refused"))
         }
@@ -77,8 +77,8 @@ fn each_refusal_is_told_with_the_bytes_written(rt: HostRuntime) -> Result<(), Fa
         (2, Call::Close, 15, 20, (21, 19)),
         (2, Call::Close, 511, 20, (0, 0)),
     ];
-    for case in cases {
-        assert_eq!(rt; answer(case.0, case.1, case.2, case.3)?, case.4);
+    for (elements, call, spoiled, room, refusal) in cases {
+        assert_eq!(rt; answer(elements, call, spoiled, room)?, refusal);
     }
     Ok(())
 }
@@ -90,8 +90,7 @@ fn begun(writer: WriterOutside, bytes: &mut [u8], document: u32) -> (u8, u32) {
             let _ = inside.abandon();
             (0, 0)
         }
-        Err(refused) => {
-            let GivenBack { writer, fault } = refused;
+        Err(GivenBack { writer, fault }) => {
             let _ = writer.finish();
             (fault.refusal.number(), fault.place)
         }
@@ -102,8 +101,7 @@ fn begun(writer: WriterOutside, bytes: &mut [u8], document: u32) -> (u8, u32) {
 fn ended(writer: WriterInside, bytes: &mut [u8], document: u32) -> (u8, u32) {
     match writer.end(bytes) {
         Ok(outside) => begun(outside, bytes, document),
-        Err(refused) => {
-            let GivenBack { writer, fault } = refused;
+        Err(GivenBack { writer, fault }) => {
             let _ = writer.abandon();
             (99, fault.refusal.number() as u32)
         }
@@ -145,8 +143,7 @@ fn every_byte_is_as_the_format_says(rt: HostRuntime) -> Result<(), Fail> {
     let _ = writer.close(&mut bytes);
     match writer.end(&mut bytes) {
         Ok(outside) => assert_eq!(rt; outside.finish(), 21),
-        Err(refused) => {
-            let GivenBack { writer, fault: _ } = refused;
+        Err(GivenBack { writer, fault: _ }) => {
             let _ = writer.abandon();
             return Err(Fail::new("end was refused"));
         }

@@ -1,16 +1,16 @@
 //! Calls on a fresh writer, one after another.
 
-ghost use Rattle.std.specs.Prelude.{◌≡◌, ◌≤◌, Some};
+ghost use Rattle.std.specs.Prelude.{◌≡◌};
 ghost use Rattle.nodes.specs.declared.refusal.Refusal.TheVariants.{Misplaced};
-ghost use Rattle.writer.specs.declared.call.WriterCall.TheVariants.{Begin, Open, Value, Close, End};
-ghost use Rattle.nodes.specs.Limits.{max_bytes};
+ghost use Rattle.writer.specs.declared.call.WriterCall.TheVariants.{End};
 ghost use Rattle.writer.specs.Views.{out, ins};
-ghost use Rattle.writer.specs.Calls.{answer_at};
-ghost use Rattle.writer.specs.Turns.{free, busy, state_of, Turns, fault_of, length_of};
+ghost use Rattle.writer.specs.Writer.{fault_at};
+ghost use Rattle.writer.specs.Turns.{free, busy, state_of, Turns, length_of};
 ghost use Rattle.writer.specs.Writes.{WritesAll};
 
 use crate::call::WriterCall;
-use crate::state::{GivenBack, WriteFault, WriterInside, WriterOutside};
+use crate::fault::WriteFault;
+use crate::state::{GivenBack, WriterInside, WriterOutside, fault_at};
 use nodes::refusal::Refusal;
 
 /// A writer, outside or inside a document.
@@ -22,67 +22,44 @@ enum Writer {
 /// A writer after a call, and what the call is answered.
 struct Turn {
     writer: Writer,
-    answer: Option<WriteFault>,
+    answer: Result<(), WriteFault>,
 }
 
-fn begin(writer: WriterOutside, bytes: &mut [u8], document: u32) -> Turn
-    ensures { Turns bytes.old (free (out writer)) (Begin document) bytes.new result }
+impl Turn {
+    /// A writer after a call that was accepted.
+    fn accepted(writer: Writer) -> Turn
+        ensures { result ≡ record { writer = writer; answer = Ok tt } }
+    {
+        let answer = Ok(());
+        Turn { writer, answer }
+    }
+
+    /// A writer after a call that was refused.
+    fn refused(writer: Writer, fault: WriteFault) -> Turn
+        ensures { result ≡ record { writer = writer; answer = Err fault } }
+    {
+        let answer = Err(fault);
+        Turn { writer, answer }
+    }
+}
+
+/// The fault of a call that the writer's state does not have.
+fn misplaced(place: u32) -> WriteFault
+    ensures { result ≡ fault_at place Misplaced }
 {
+    fault_at(place, Refusal::Misplaced)
+}
+
+fn outside(writer: WriterOutside, bytes: &mut [u8], call: WriterCall) -> Turn
+    ensures { Turns bytes.old (free (out writer)) call bytes.new result }
+{
+    let WriterCall::Begin(document) = call else {
+        let fault = misplaced(writer.finished_length() as u32);
+        return Turn::refused(Writer::Outside(writer), fault);
+    };
     match writer.begin(bytes, document) {
-        Ok(writer) => {
-            let writer = Writer::Inside(writer);
-            Turn {
-                writer,
-                answer: None,
-            }
-        }
-        Err(refused) => {
-            let GivenBack { writer, fault } = refused;
-            let writer = Writer::Outside(writer);
-            Turn {
-                writer,
-                answer: Some(fault),
-            }
-        }
-    }
-}
-
-fn fault_of(res: Result<(), WriteFault>) -> Option<WriteFault>
-    ensures { result ≡ fault_of res }
-{
-    match res {
-        Ok(_) => None,
-        Err(fault) => Some(fault),
-    }
-}
-
-fn open(mut writer: WriterInside, bytes: &mut [u8], tag: u16) -> Turn
-    ensures { Turns bytes.old (busy (ins writer)) (Open tag) bytes.new result }
-{
-    let result = writer.open(bytes, tag);
-    Turn {
-        writer: Writer::Inside(writer),
-        answer: fault_of(result),
-    }
-}
-
-fn value(mut writer: WriterInside, bytes: &mut [u8], tag: u16, number: u32) -> Turn
-    ensures { Turns bytes.old (busy (ins writer)) (Value tag number) bytes.new result }
-{
-    let result = writer.value(bytes, tag, number);
-    Turn {
-        writer: Writer::Inside(writer),
-        answer: fault_of(result),
-    }
-}
-
-fn close(mut writer: WriterInside, bytes: &mut [u8]) -> Turn
-    ensures { Turns bytes.old (busy (ins writer)) Close bytes.new result }
-{
-    let result = writer.close(bytes);
-    Turn {
-        writer: Writer::Inside(writer),
-        answer: fault_of(result),
+        Ok(begun) => Turn::accepted(Writer::Inside(begun)),
+        Err(GivenBack { writer, fault }) => Turn::refused(Writer::Outside(writer), fault),
     }
 }
 
@@ -90,61 +67,23 @@ fn end(writer: WriterInside, bytes: &mut [u8]) -> Turn
     ensures { Turns bytes.old (busy (ins writer)) End bytes.new result }
 {
     match writer.end(bytes) {
-        Ok(writer) => {
-            let writer = Writer::Outside(writer);
-            Turn {
-                writer,
-                answer: None,
-            }
-        }
-        Err(refused) => {
-            let GivenBack { writer, fault } = refused;
-            let writer = Writer::Inside(writer);
-            Turn {
-                writer,
-                answer: Some(fault),
-            }
-        }
+        Ok(ended) => Turn::accepted(Writer::Outside(ended)),
+        Err(GivenBack { writer, fault }) => Turn::refused(Writer::Inside(writer), fault),
     }
 }
 
-/// The answer to a call that the writer's state does not have.
-fn misplaced(written: usize) -> Option<WriteFault>
-    requires { written ≤ max_bytes }
-    ensures { result ≡ answer_at written (Some Misplaced) }
-{
-    let refusal = Refusal::Misplaced;
-    let place = written as u32;
-    Some(WriteFault { refusal, place })
-}
-
-fn outside(writer: WriterOutside, bytes: &mut [u8], call: WriterCall) -> Turn
-    ensures { Turns bytes.old (free (out writer)) call bytes.new result }
-{
-    match call {
-        WriterCall::Begin(document) => begin(writer, bytes, document),
-        _ => {
-            let answer = misplaced(writer.finished_length());
-            let writer = Writer::Outside(writer);
-            Turn { writer, answer }
-        }
-    }
-}
-
-fn inside(writer: WriterInside, bytes: &mut [u8], call: WriterCall) -> Turn
+fn inside(mut writer: WriterInside, bytes: &mut [u8], call: WriterCall) -> Turn
     ensures { Turns bytes.old (busy (ins writer)) call bytes.new result }
 {
-    match call {
-        WriterCall::Begin(_) => {
-            let answer = misplaced(writer.written());
-            let writer = Writer::Inside(writer);
-            Turn { writer, answer }
-        }
-        WriterCall::Open(tag) => open(writer, bytes, tag),
-        WriterCall::Value(tag, number) => value(writer, bytes, tag, number),
-        WriterCall::Close => close(writer, bytes),
-        WriterCall::End => end(writer, bytes),
-    }
+    let answer = match call {
+        WriterCall::Begin(_) => Err(misplaced(writer.written() as u32)),
+        WriterCall::Open(tag) => writer.open(bytes, tag),
+        WriterCall::Value(tag, number) => writer.value(bytes, tag, number),
+        WriterCall::Close => writer.close(bytes),
+        WriterCall::End => return end(writer, bytes),
+    };
+    let writer = Writer::Inside(writer);
+    Turn { writer, answer }
 }
 
 fn make(writer: Writer, bytes: &mut [u8], call: WriterCall) -> Turn
@@ -174,19 +113,20 @@ fn finish(writer: Writer) -> Option<usize>
 pub fn write_all(
     calls: &[WriterCall],
     bytes: &mut [u8],
-    answers: &mut [Option<WriteFault>],
+    answers: &mut [Result<(), WriteFault>],
 ) -> Option<usize>
     ensures { WritesAll calls.now bytes.old bytes.new answers.old answers.new result }
 {
     let mut writer = Writer::Outside(WriterOutside::fresh());
-    let count = calls.len().min(answers.len());
-    for i in 0..count {
-        let Turn {
-            writer: next,
-            answer,
-        } = make(writer, bytes, calls[i]);
-        writer = next;
-        answers[i] = answer;
+    // Not a zip: over a zip with `answers.iter_mut()` no proof learns what was written.
+    for (i, answer) in answers.iter_mut().enumerate() {
+        let Some(call) = calls.get(i) else {
+            break;
+        };
+        Turn {
+            writer,
+            answer: *answer,
+        } = make(writer, bytes, *call);
     }
     finish(writer)
 }

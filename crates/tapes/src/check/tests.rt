@@ -26,11 +26,10 @@ fn a_tape_is_taken_whole_or_refused_with_its_fault(rt: HostRuntime) {
         (11, 13, (8, 12, 9)),
         (4, 8, (0, 0, 0)),
     ];
-    for case in cases {
+    for (at, byte, fault) in cases {
         let mut bytes = ROOT;
-        let at: usize = case.0;
         assert!(rt; at < 14);
-        bytes[at] = case.1;
-        assert_eq!(rt; told(&bytes), case.2);
+        bytes[at] = byte;
+        assert_eq!(rt; told(&bytes), fault);
     }
 }

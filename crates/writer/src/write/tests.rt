@@ -1,14 +1,7 @@
 use super::write_all;
 use crate::call::WriterCall;
-use crate::state::WriteFault;
+use crate::tests::told;
 use tapes::check::check_tape;
-
-fn told(answer: Option<WriteFault>) -> (u8, u32) {
-    match answer {
-        None => (0, 0),
-        Some(fault) => (fault.refusal.number(), fault.place),
-    }
-}
 
 #[test]
 fn calls_go_on_after_a_refusal(rt: HostRuntime) {
@@ -35,7 +28,7 @@ fn calls_go_on_after_a_refusal(rt: HostRuntime) {
         (5, 21),
     ];
     let mut bytes = [9; 24];
-    let mut answers = [None; 9];
+    let mut answers = [Ok(()); 9];
     let finished = write_all(&calls, &mut bytes, &mut answers);
     assert_eq!(rt; finished, Some(21));
     for (answer, fault) in answers.iter().zip(&expected) {
@@ -54,7 +47,7 @@ fn calls_go_on_after_a_refusal(rt: HostRuntime) {
 fn an_unfinished_document_is_no_tape(rt: HostRuntime) {
     let calls = [WriterCall::Begin(7), WriterCall::Open(1), WriterCall::Close];
     let mut bytes = [9; 12];
-    let mut answers = [None; 3];
+    let mut answers = [Ok(()); 3];
     assert_eq!(rt; write_all(&calls, &mut bytes, &mut answers), None);
     assert_eq!(rt; told(answers[2]), (20, 12));
     assert_eq!(rt; bytes, [1, 0, 0, 0, 7, 2, 0, 1, 255, 255, 255, 255]);

@@ -6,8 +6,5 @@ use Rattle.paths.proofs.path.advance.Goals as goal
 
 pub returns : goal.returns
 returns g c =
-    let n = c.new.ensures in
-    let s = c.source-source.ensures in
     let a = advanced c.args.k c.args.room _ _ c.step.result (drop c.args.room c.args.to.now) (take c.args.room c.args.to.now) c.step.new.out (length-take-le _ _ (omega arith)) c.step.ensures in
-    let e = step_is (scope g.M.Model c.args.model.now c.args.room) c.args.k c.args.asked _ _ _ _ _ _ n.coming n.ending s.coming s.ending in
-    meant e a
+    meant (step_is (scope g.M.Model c.args.model.now c.args.room) c.args.k c.args.asked c.opening-opening.ensures c.new.ensures.coming c.new.ensures.ending) a
