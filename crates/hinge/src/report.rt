@@ -11,6 +11,7 @@ use tapes::check::check_tape;
 use tapes::source::TapeSource;
 use writer::fault::WriteFault;
 
+// The runtime and the bytes are passed to each: a report holds what is counted, and no handle.
 /// How many values were compared, and how many of them differ.
 #[derive(Drop)]
 pub struct Report {

@@ -58,9 +58,6 @@ module _ {S : Type 0} (below : Ghosts S) where
   abbrev pub listing : S → Listing
   listing s = record { nodes = below.coming s; ending = below.ending s }
 
-  abbrev pub side_listing : Side S → Listing
-  side_listing s = record { nodes = side_nodes below s; ending = side_ending below s }
-
 -- what the layer means, over what its sources mean
 module _ {S T : Type 0} (below : Ghosts S) (beside : Ghosts T) where
   abbrev pub union_means : Union S T → Listing

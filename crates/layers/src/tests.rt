@@ -16,6 +16,8 @@ fn row(start: u32, end: u32, level: u8) -> Row {
 }
 
 // What a source gives next: 0 and a node's start; 255 at its end; a fault's number, name and place.
+// By number, as the rules tell refusals; and once more in each crate that needs it, since no crate
+// lends its tests.
 fn told<S: NodeSource>(source: &mut S) -> (u8, u16, u32) {
     match source.take() {
         Ok(Some(node)) => (0, 0, Row::from(node).start),

@@ -28,6 +28,7 @@ fn meet(first: Node, second: Node) -> Turn
     }
 }
 
+// Like a merge's `whose_turn` only where a hand is empty; what both hands bring is another rule.
 /// The turn that is next, or the end; a fault in hand comes before all, the first side's first.
 pub fn next_turn(
     first: Result<Option<Node>, Fault>,

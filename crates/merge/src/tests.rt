@@ -15,7 +15,8 @@ fn row(start: u32, end: u32, level: u8) -> Row {
     }
 }
 
-// How up to eight turns of two lists stop: the number of the refusal and its turn, or 0 and all turns.
+// How up to eight turns of two lists stop: the number of the refusal and its turn, or 0 and all turns. By number, as the rules
+// tell refusals.
 fn stop(above: &[Row], below: &[Row]) -> (u8, u32) {
     let mut merge = Merge::open(ListSource::new(above, 1), ListSource::new(below, 2), 3);
     for _ in 0..8 {
@@ -46,9 +47,8 @@ fn the_first_test_that_applies_refuses(rt: HostRuntime) {
         (body, last, row(19, 19, 3), row(19, 19, 3), 14, 3),
         (body, last, row(12, 50, 1), row(13, 13, 1), 16, 3),
     ];
-    for case in cases {
-        let (number, turn) = stop(&[case.0, case.1], &[case.2, case.3]);
-        assert!(rt; number == case.4 && turn == case.5);
+    for (first, second, third, fourth, number, turn) in cases {
+        assert_eq!(rt; stop(&[first, second], &[third, fourth]), (number, turn));
     }
 }
 

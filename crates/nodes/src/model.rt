@@ -14,6 +14,7 @@ pub trait Model {
 
     ghost ending_of: { Self → ℕ → ℕ → Option Fault };
 
+    // Tag and name go together in this one call, and are two numbers of different meaning.
     /// A source of the tag's list, whose fault, if it ends by one, has the name.
     fn source(&self, tag: u16, name: u16) -> Self::Source
         ensures coming { Self.Source.NodeSource.coming result ≡ list_of self.now tag }

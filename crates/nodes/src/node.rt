@@ -8,7 +8,8 @@ use crate::place::Place;
 use crate::refusal::Refusal;
 use crate::row::Row;
 
-/// A node of a model's tree. Only the check of a row makes one, so nothing else tests these facts.
+/// A node of a model's tree. Only the check of a row makes one, besides the blank node, so nothing
+/// else tests these facts.
 #[derive(Clone, Copy, PartialEq, Eq, Debug)]
 pub struct Node {
     document: u32,
@@ -67,11 +68,12 @@ impl From<Node> for Row {
 }
 
 impl Default for Node {
-    ghost use Rattle.nodes.specs.Node.{blank, row_of};
+    ghost use Rattle.nodes.specs.Node.{blank};
 
-    ghost is_default = { λ node. row_of node ≡ row_of blank };
+    ghost is_default = { λ node. node ≡ blank };
 
     /// The blank node.
+    #[tactic(auto, using(crate::proofs::Made::same_node_lem))]
     fn default() -> Node {
         Node {
             document: 0,

@@ -2,7 +2,7 @@
 
 ghost use Rattle.std.specs.Prelude.{◌≡◌, Some};
 ghost use Rattle.nodes.specs.Refusals.{number, fault_by};
-ghost use Rattle.nodes.specs.Texts.{fault_text};
+ghost use Rattle.nodes.specs.Texts.{refusal_text, fault_text};
 
 use std::error::Error;
 use std::fmt;
@@ -74,6 +74,16 @@ impl Refusal {
     }
 }
 
+impl fmt::Display for Refusal {
+    ghost output = { λ refusal. Some (refusal_text refusal) };
+
+    fn fmt<W: fmt::Write>(&self, f: &mut fmt::Formatter<W>) -> fmt::Result {
+        write!(f, "refusal {}", self.number())
+    }
+}
+
+impl Error for Refusal {}
+
 /// What stopped a source, a layer or a run: the refusal, the name of who found it, and where.
 #[derive(Clone, Copy, PartialEq, Eq, Debug)]
 pub struct Fault {
@@ -86,11 +96,10 @@ impl fmt::Display for Fault {
     ghost output = { λ fault. Some (fault_text fault) };
 
     fn fmt<W: fmt::Write>(&self, f: &mut fmt::Formatter<W>) -> fmt::Result {
-        let number = self.refusal.number();
         write!(
             f,
-            "refusal {number} at {}, found by {}",
-            self.place, self.name
+            "{} at {}, found by {}",
+            self.refusal, self.place, self.name
         )
     }
 }

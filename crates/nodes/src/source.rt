@@ -9,6 +9,7 @@ use crate::node::Node;
 use crate::refusal::Fault;
 
 /// A finite list of nodes still to come, and then an ending: the end (`None`) or one fault.
+// Two ghost members and not one pair of them: a layer often changes the list alone.
 pub trait NodeSource {
     ghost coming: { Self → List Node };
 

@@ -5,6 +5,7 @@ use crate::row::Row;
 use crate::source::NodeSource;
 use std::test::Fail;
 
+// A row of any document; each crate's tests have their own, since no crate lends its tests.
 fn row(document: u32, start: u32, end: u32, level: u8) -> Row {
     Row {
         document,
@@ -14,7 +15,7 @@ fn row(document: u32, start: u32, end: u32, level: u8) -> Row {
     }
 }
 
-// The number by which a row is refused, and 0 for a node's row.
+// The number by which a row is refused, and 0 for a node's row: the rules tell refusals by number.
 fn refused(row: Row) -> u8 {
     match Node::try_from(row) {
         Ok(_) => 0,
@@ -33,8 +34,8 @@ fn ranges_are_tested_before_the_order(rt: HostRuntime) {
         (row(7, 2, 1, 65), 10),
         (row(7, 2, 1, 64), 11),
     ];
-    for case in cases {
-        assert_eq!(rt; refused(case.0), case.1);
+    for (row, number) in cases {
+        assert_eq!(rt; refused(row), number);
     }
     assert_eq!(rt; Row::from(row(7, 2, 1, 64).node_or_blank()), Row::BLANK);
     assert_eq!(rt;
@@ -53,10 +54,10 @@ fn containment_is_strict(rt: HostRuntime) {
         (row(7, 13, 40, 4), true, false),
         (row(8, 13, 40, 3), false, false),
     ];
-    for case in cases {
-        let other = case.0.node_or_blank();
-        assert_eq!(rt; body.contains(other), case.1);
-        assert_eq!(rt; body.is_parent_of(other), case.2);
+    for (other, is_inside, is_child) in cases {
+        let other = other.node_or_blank();
+        assert_eq!(rt; body.contains(other), is_inside);
+        assert_eq!(rt; body.is_parent_of(other), is_child);
     }
     let place = body.place();
     assert_eq!(rt;

@@ -52,8 +52,6 @@ impl Turns {
         ensures had { self.new.had ≡ min (self.old.had + 1) max_turns }
         ensures name { self.new.name ≡ self.old.name }
     {
-        if !self.are_spent() {
-            self.had += 1;
-        }
+        self.had = (self.had + 1).min(MAX_TURNS);
     }
 }

@@ -8,6 +8,7 @@ use nodes::refusal::{Fault, Refusal};
 use std::error::Error;
 use std::fmt;
 
+// A type of its own: a step cannot be refused as a query can.
 /// Why a step gives no nodes: more fit than there is room for, or its run was stopped.
 #[derive(Clone, Copy, PartialEq, Eq, Debug)]
 pub enum StepFault {
@@ -41,9 +42,7 @@ impl fmt::Display for PathFault {
 
     fn fmt<W: fmt::Write>(&self, f: &mut fmt::Formatter<W>) -> fmt::Result {
         match self {
-            PathFault::Own { refusal, place } => {
-                write!(f, "refusal {} at step {place}", refusal.number())
-            }
+            PathFault::Own { refusal, place } => { write!(f, "{refusal} at step {place}") }
             PathFault::Step { step, fault } => write!(f, "step {step}: {fault}"),
         }
     }

@@ -37,6 +37,7 @@ fn opening<M: Model, C: NodeSource>(
     }
 }
 
+// Whole lists with their counts: were they cut by the walk, both of its calls would have to say so.
 /// Step k: from the nodes in the first n rows of one list to the first rows of another, of which
 /// it may use as many as there is room.
 fn advance<M: Model>(

@@ -24,6 +24,8 @@ fn row(start: u32, end: u32, level: u8) -> Row {
 }
 
 // What a source gives next: 0 and a node's start; 255 at its end; a fault's number and place.
+// By number, as the rules tell refusals; and once more in each crate that needs it, since no crate
+// lends its tests.
 fn told<S: NodeSource>(source: &mut S) -> (u8, u32) {
     match source.take() {
         Ok(Some(node)) => (0, Row::from(node).start),
@@ -122,7 +124,7 @@ const TAPE: [u8; 51] = [
 const QUERY: [u8; 9] = [0x21, 0, 1, 0x22, 0, 2, 0x21, 0, 3];
 
 // How a path answers: 0, the step 0 and the number of nodes; or the refusal's number, the step
-// that was stopped, and the place.
+// that was stopped, and the place. By number, as the rules tell refusals.
 fn asked(tape: &[u8], query: &[u8], answer: &mut [Row], spare: &mut [Row]) -> (u8, u32, usize) {
     match path(&Tape::new(tape), query, answer, spare) {
         Ok(count) => (0, 0, count),

@@ -9,7 +9,8 @@ const LIST: [u8; 45] = *b"\0\x02\0\0\0\x07\0\0\0\x0c\0\0\0\x29\x02\
     \0\x02\0\0\0\x07\0\0\0\x1a\0\0\0\x28\x03";
 
 // How a tag's list ends after some nodes: 0 at the end, else the refusal's number and place; 99 if
-// there are fewer or more nodes, or the fault has another name.
+// there are fewer or more nodes, or the fault has another name. By
+// number, as the rules tell refusals.
 fn ending(bytes: &[u8], tag: u16, nodes: u8) -> (u8, u32) {
     let mut source = Postings::new(bytes).source(tag, 9);
     for _ in 0..nodes {

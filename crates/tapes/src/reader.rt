@@ -18,6 +18,7 @@ use nodes::tagged::Tagged;
 pub struct Reader<'a> {
     bytes: &'a [u8],
     at: usize,
+    // Flat, as the rules have a reading: in an enum of stages the numbers would be taken apart again.
     stage: Stage,
     document: u32,
     /// The least number that the next document may have.

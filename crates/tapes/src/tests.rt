@@ -11,7 +11,8 @@ const HINGE: [u8; 51] = [
     0, 40, 4, 0, 3, 0, 0, 0, 0, 3, 3, 4, 0, 3, 0, 0, 0, 0, 3, 5,
 ];
 
-// The number and place of the refusal that ends a tape, and 0 where it ends well.
+// The number and place of the refusal that ends a tape, and 0 where it ends well. By number, as the rules
+// tell refusals.
 fn ending(bytes: &[u8]) -> (u8, u32) {
     let mut source = TapeSource::new(bytes, 3, 9);
     for _ in 0..100 {
@@ -106,10 +107,7 @@ fn a_tag_has_its_nodes_in_tree_order(rt: HostRuntime) -> Result<(), Fail> {
         assert_eq!(rt; (row.start, row.end, row.level), expected);
     }
     match bodies.take() {
-        Ok(taken) => {
-            assert!(rt; taken.is_none());
-            Ok(())
-        }
-        Err(_) => Err(Fail::new("a sound tape ends")),
+        Ok(None) => Ok(()),
+        _ => Err(Fail::new("a sound tape ends")),
     }
 }

@@ -1,6 +1,6 @@
 use Rattle.std.specs.Prelude.{ℕ, List, ◌++◌, codes}
 use Rattle.std.specs.Fmt.{decimal}
-use Rattle.nodes.specs.Refusals.{number}
+use Rattle.nodes.specs.Texts.{refusal_text}
 use Rattle.writer.specs.declared.call.WriterCall.{WriterCall}
 use Rattle.writer.specs.declared.call.WriterCall.TheVariants.{Begin, Open, Value, Close, End}
 use Rattle.writer.specs.declared.fault.WriteFault.{WriteFault}
@@ -15,4 +15,4 @@ call_text End = codes "end"
 
 -- how the fault of a call prints
 abbrev pub write_fault_text : WriteFault → List ℕ
-write_fault_text f = codes "refusal " ++ (decimal (number f.refusal) ++ (codes " at " ++ decimal f.place))
+write_fault_text f = refusal_text f.refusal ++ (codes " at " ++ decimal f.place)

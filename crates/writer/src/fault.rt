@@ -18,7 +18,7 @@ impl fmt::Display for WriteFault {
     ghost output = { λ fault. Some (write_fault_text fault) };
 
     fn fmt<W: fmt::Write>(&self, f: &mut fmt::Formatter<W>) -> fmt::Result {
-        write!(f, "refusal {} at {}", self.refusal.number(), self.place)
+        write!(f, "{} at {}", self.refusal, self.place)
     }
 }
 

@@ -1,4 +1,4 @@
-//! The writer's two types, of plain numbers: a value of either is moved on, never copied or let go.
+//! The writer's two types: a value of either is moved on, never copied or let go.
 
 ghost use Rattle.std.specs.Prelude.{◌+◌, ◌≤◌, ◌≡◌, length, if◌then◌else◌, Some, None};
 ghost use Rattle.nodes.specs.Limits.{max_bytes, max_document, max_level};

@@ -2,7 +2,7 @@ use crate::fault::WriteFault;
 use crate::state::{GivenBack, WriterInside, WriterOutside};
 use std::test::Fail;
 
-// A call of a writer inside a document.
+// A call that leaves a writer inside its document; `WriterCall` has two more.
 #[derive(Clone, Copy)]
 enum Call {
     Open(u16),
@@ -18,7 +18,8 @@ fn make(writer: &mut WriterInside, bytes: &mut [u8], call: Call) -> Result<(), W
     }
 }
 
-// The number and place of a refusal, and 0 where there is none.
+// The number and place of a refusal, and 0 where there is none. By number, as the rules
+// tell refusals.
 pub fn told(res: Result<(), WriteFault>) -> (u8, u32) {
     match res {
         Ok(()) => (0, 0),

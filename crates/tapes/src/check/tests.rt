@@ -3,7 +3,8 @@ use super::check_tape;
 // Document 7 with an empty root of tag 1.
 const ROOT: [u8; 14] = [1, 0, 0, 0, 7, 2, 0, 1, 0, 0, 0, 12, 3, 5];
 
-// The number, the place and the name of a fault, and 0 where the bytes are a tape.
+// The number, the place and the name of a fault, and 0 where the bytes are a tape. By number, as the rules
+// tell refusals.
 fn told(bytes: &[u8]) -> (u8, u32, u16) {
     match check_tape(bytes, 9) {
         Ok(()) => (0, 0, 0),
