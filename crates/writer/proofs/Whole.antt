@@ -9,7 +9,7 @@ use Rattle.tapes.proofs.Checks.{tape_of}
 use Rattle.tapes.proofs.Commands.{some_not}
 use Rattle.tapes.proofs.Drafts.{length_docs}
 use Rattle.writer.specs.Writer.{Out}
-use Rattle.writer.specs.Calls.{Answer, draft_calls, put_in, answers, after, accepted, over, finished_length}
+use Rattle.writer.specs.Calls.{Answer, bytes_of_draft, draft_calls, put_in, answers, after, accepted, over, finished_length}
 use Rattle.writer.specs.Turns.{State, free, busy, Stands, Holds, Made, length_of, Far}
 use Rattle.writer.specs.Writes.{Unbroken, PutsIn, Writes, WritesAll}
 use Rattle.writer.specs.declared.call.WriterCall.{WriterCall}
@@ -93,7 +93,12 @@ writes cs old new s got r h e p =
       stand = finished_stand cs old new h.bytes;
       writable = λ f fine fits c.
           let b : d ≡ between f = ap (put_in old) c ∙ forest_in old f fine fits in
-          record { calls = a ∙ ap draft_calls b ∙ sym c; result = q ∙ ap finished_length b };
+          record {
+            calls = a ∙ ap draft_calls b ∙ sym c;
+            bytes = ap (take (length (encode f))) (h.bytes ∙ ap (λ (x : Draft). over (bytes_of_draft x) old) b)
+                ∙ take_at (encode f) (drop (length (encode f)) old) (length (encode f)) refl;
+            result = q ∙ ap finished_length b;
+          };
     }
 
 -- the answers of the calls, in front of those that were there

@@ -20,9 +20,10 @@ pub record PutsIn (cs : List WriterCall) (got : List Answer) (bs : List ℕ) (f 
   pub calls : accepted cs got ≡ calls_of f
   pub tape : TapeOf bs f
 
--- all calls were accepted, and the forest's bytes are finished
-pub record AllAccepted (cs : List WriterCall) (got : List Answer) (f : Forest) (r : Option ℕ) : Type 0 where
+-- all calls were accepted, and the forest's bytes are there and finished
+pub record AllAccepted (cs : List WriterCall) (got : List Answer) (bs : List ℕ) (f : Forest) (r : Option ℕ) : Type 0 where
   pub calls : accepted cs got ≡ cs
+  pub bytes : StartsWith (encode f) bs
   pub result : r ≡ Some (length (encode f))
 
 -- the calls cs from a fresh writer on, where the caller's bytes were old and are new, got is what they are answered, and r
@@ -40,7 +41,7 @@ pub record Writes (cs : List WriterCall) (old new : List ℕ) (got : List Answer
   -- documents that were finished at any time stand
   pub stand : (first rest : List WriterCall) → cs ≡ first ++ rest → StartsWith (encode (finished_in (put_in old first))) new
   -- a fine forest that fits is written by its calls
-  pub writable : (f : Forest) → Fine f → length (encode f) ≤ length old → cs ≡ calls_of f → AllAccepted cs got f r
+  pub writable : (f : Forest) → Fine f → length (encode f) ≤ length old → cs ≡ calls_of f → AllAccepted cs got new f r
 
 -- as many calls as there are answers for; the answers behind theirs are as they were
 pub record WritesAll (calls : List WriterCall) (old new : List ℕ) (before after : List Answer) (r : Option ℕ) : Type 0 where
