@@ -111,7 +111,7 @@ impl Report {
         let mut answer = [Row::BLANK; 2];
         let mut spare = [Row::BLANK; 2];
         let found = path(&tape, &QUERY, &mut answer, &mut spare);
-        self.expect(found.is_ok());
+        self.expect(matches!(found, Ok(2)));
         for (row, expected) in answer.iter().zip(&FOUND) {
             let start = row.start;
             self.expect(start == *expected);
