@@ -3,6 +3,7 @@
 ghost use Rattle.std.specs.Prelude.{◌≡◌, ◌+◌, min, if◌then◌else◌};
 
 use crate::block::{CALLS, DOCUMENT, ROOT_CLOSE, TAPE};
+use crate::said::Written;
 use nodes::node::Node;
 use nodes::row::Row;
 use nodes::source::NodeSource;
@@ -47,10 +48,8 @@ impl Report {
         answers: &[Result<(), WriteFault>; 11],
     ) -> io::Result<()> {
         for (call, answer) in CALLS.iter().zip(answers) {
-            match answer {
-                Ok(()) => println!(rt; "{call}: accepted")?,
-                Err(fault) => println!(rt; "{call}: {fault}")?,
-            }
+            let written = Written { answer: *answer };
+            println!(rt; "{call}: {written}")?;
             self.expect(answer.is_ok());
         }
         Ok(())

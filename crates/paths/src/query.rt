@@ -29,8 +29,8 @@ pub struct Step {
 // An array with its count beside: the engine has fixed memory and no heap.
 #[derive(Drop)]
 pub struct Query {
-    steps: [Step; MAX_STEPS],
-    count: usize,
+    pub steps: [Step; MAX_STEPS],
+    pub count: usize,
     ghost few: { count ≤ max_steps },
 }
 

@@ -29,14 +29,17 @@ module _ (s t : Reader) (inside : s.at < length s.bytes.now) where
     let p : s.at < u.at = ahead (moved u) e in let q : t.at ≡ u.at = ap (λ (x : Reading). x.at) h.stands in omega arith,
   )
 
-  some_by : (m : Move) (x : Tagged) → m ≡ step s.bytes.now (reading s) → Moves m s (Ok (Some x)) t → left s ≡ more x (left t)
+  some_by : (m : Move) (x : Tagged) → m ≡ step s.bytes.now (reading s) → Moves m s (Ok (Some x)) t → (left s ≡ more x (left t)) × (s.at < t.at)
   some_by (refused f) x e h = absurd (let a = h.answers in cc)
   some_by (moved u) x e h = absurd (let a = h.answers in cc)
   some_by (made y u) x e h =
       let a = h.answers in
-      let yx : y ≡ x = cc in left_step (made y u) e ∙ ap (more y) (sym (left_at u h.bytes h.stands)) ∙ ap (λ z. more z (left t)) yx
+      let yx : y ≡ x = cc in (
+        left_step (made y u) e ∙ ap (more y) (sym (left_at u h.bytes h.stands)) ∙ ap (λ z. more z (left t)) yx,
+        let p : s.at < u.at = ahead (made y u) e in let q : t.at ≡ u.at = ap (λ (x : Reading). x.at) h.stands in omega arith,
+      )
 
-  err_by : (m : Move) (f : Refusal) → m ≡ step s.bytes.now (reading s) → Moves m s (Err f) t → (left s ≡ stopped f t.at) × (left t ≡ left s)
+  err_by : (m : Move) (f : Refusal) → m ≡ step s.bytes.now (reading s) → Moves m s (Err f) t → (left s ≡ stopped f t.at) × (left t ≡ left s) × (t.at ≡ s.at)
   err_by (moved u) f e h = absurd (let a = h.answers in cc)
   err_by (made x u) f e h = absurd (let a = h.answers in cc)
   err_by (refused g) f e h =
@@ -44,15 +47,16 @@ module _ (s t : Reader) (inside : s.at < length s.bytes.now) where
       let gf : g ≡ f = cc in (
         left_step (refused g) e ∙ ap (λ z. stopped z s.at) gf ∙ ap (λ (x : Reading). stopped f x.at) (sym h.stands),
         left_at (reading s) h.bytes h.stands,
+        ap (λ (x : Reading). x.at) h.stands,
       )
 
   pub on_none : Moves (step s.bytes.now (reading s)) s (Ok None) t → (left s ≡ left t) × (s.at < t.at)
   on_none = none_by _ refl
 
-  pub on_some : (x : Tagged) → Moves (step s.bytes.now (reading s)) s (Ok (Some x)) t → left s ≡ more x (left t)
+  pub on_some : (x : Tagged) → Moves (step s.bytes.now (reading s)) s (Ok (Some x)) t → (left s ≡ more x (left t)) × (s.at < t.at)
   on_some x = some_by _ x refl
 
-  pub on_err : (f : Refusal) → Moves (step s.bytes.now (reading s)) s (Err f) t → (left s ≡ stopped f t.at) × (left t ≡ left s)
+  pub on_err : (f : Refusal) → Moves (step s.bytes.now (reading s)) s (Err f) t → (left s ≡ stopped f t.at) × (left t ≡ left s) × (t.at ≡ s.at)
   on_err f = err_by _ f refl
 
 pub not-outside : (g : Stage) (n : ℕ) → (g ≡ Outside → ⊥) → end_at g n ≡ stopped Misplaced n

@@ -3,6 +3,7 @@
 ghost use Rattle.std.specs.Prelude.{◌≡◌};
 ghost use Rattle.nodes.specs.declared.refusal.Refusal.TheVariants.{Misplaced};
 ghost use Rattle.writer.specs.declared.call.WriterCall.TheVariants.{End};
+ghost use Rattle.writer.specs.declared.write.Writer.TheVariants.{Inside};
 ghost use Rattle.writer.specs.Views.{out, ins};
 ghost use Rattle.writer.specs.Writer.{fault_at};
 ghost use Rattle.writer.specs.Turns.{free, busy, state_of, Turns, length_of};
@@ -41,6 +42,14 @@ impl Turn {
         let answer = Err(fault);
         Turn { writer, answer }
     }
+
+    /// A writer that stays inside its document, after a call that it answered.
+    fn answered(writer: WriterInside, answer: Result<(), WriteFault>) -> Turn
+        ensures { result ≡ record { writer = Inside writer; answer = answer } }
+    {
+        let writer = Writer::Inside(writer);
+        Turn { writer, answer }
+    }
 }
 
 /// The fault of a call that the writer's state does not have.
@@ -75,15 +84,25 @@ fn end(writer: WriterInside, bytes: &mut [u8]) -> Turn
 fn inside(mut writer: WriterInside, bytes: &mut [u8], call: WriterCall) -> Turn
     ensures { Turns bytes.old (busy (ins writer)) call bytes.new result }
 {
-    let answer = match call {
-        WriterCall::Begin(_) => Err(misplaced(writer.written() as u32)),
-        WriterCall::Open(tag) => writer.open(bytes, tag),
-        WriterCall::Value(tag, number) => writer.value(bytes, tag, number),
-        WriterCall::Close => writer.close(bytes),
-        WriterCall::End => return end(writer, bytes),
-    };
-    let writer = Writer::Inside(writer);
-    Turn { writer, answer }
+    match call {
+        WriterCall::Begin(_) => {
+            let fault = misplaced(writer.written() as u32);
+            Turn::refused(Writer::Inside(writer), fault)
+        }
+        WriterCall::Open(tag) => {
+            let answer = writer.open(bytes, tag);
+            Turn::answered(writer, answer)
+        }
+        WriterCall::Value(tag, number) => {
+            let answer = writer.value(bytes, tag, number);
+            Turn::answered(writer, answer)
+        }
+        WriterCall::Close => {
+            let answer = writer.close(bytes);
+            Turn::answered(writer, answer)
+        }
+        WriterCall::End => end(writer, bytes),
+    }
 }
 
 fn make(writer: Writer, bytes: &mut [u8], call: WriterCall) -> Turn

@@ -18,7 +18,7 @@ pub returns-in-Some : goal.returns-in-Some
 returns-in-Some c =
     let s = c.loop-self.self in
     let t = c.step.new.self in
-    c.loop-self.invariant ∙ on_some s t c.loop-self-test.true c.in-Some.row (rw c.in-Some.is at c.in_ok-row.ensures)
+    c.loop-self.invariant ∙ (on_some s t c.loop-self-test.true c.in-Some.row (rw c.in-Some.is at c.in_ok-row.ensures)).0
 
 pub loop-self-preserved : goal.loop-self-preserved
 loop-self-preserved c =
